@@ -1,0 +1,4 @@
+pub mod Checks
+pub mod Members
+pub mod Entries
+pub mod Laws

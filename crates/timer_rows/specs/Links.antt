@@ -1,0 +1,29 @@
+-- Slots: doubly linked lists of rows, each with a sentinel.
+-- With n rows and m slots, the nodes are the rows, 0 to n − 1, and the sentinel n + s of each slot s.
+use mathlib.Core.Path.{_≡_}
+use mathlib.Core.List.{List, _++_, map}
+use Prim.Native.Nat.{ℕ, _<_, _+_}
+use lib.ListN.{length, getD}
+use Rattle.timer_rows.specs.declared.row.Row.{Row}
+use Rattle.timer_rows.specs.declared.ends.Ends.{Ends}
+use Rattle.timer_rows.specs.Rows.{nexts, prevs}
+
+-- the links onward of all nodes, and those back
+abbrev pub ons : {P : Type 0} → List (Row P) → List Ends → List ℕ
+ons rows es = nexts rows ++ map (λ e. e .head) es
+
+abbrev pub backs : {P : Type 0} → List (Row P) → List Ends → List ℕ
+backs rows es = prevs rows ++ map (λ e. e .tail) es
+
+-- ns and ps are the links, hs the slot of each node (m for a row that is in none), ks the key of each row.
+-- Each node leads on to one of its slot, which leads back to it, and back to one that leads on to it; along the links the keys rise.
+-- As keys rise, no rows form a ring of their own: each slot is one list, from its sentinel through all of its rows and back.
+pub record Linked (ns ps hs ks : List ℕ) (n m : ℕ) : Type 0 where
+  pub on : (y : ℕ) → getD hs y m < m → (getD ns y 0 < n + m) × (getD hs (getD ns y 0) m ≡ getD hs y m) × (getD ps (getD ns y 0) 0 ≡ y)
+  pub back : (y : ℕ) → getD hs y m < m → (getD ps y 0 < n + m) × (getD hs (getD ps y 0) m ≡ getD hs y m) × (getD ns (getD ps y 0) 0 ≡ y)
+  pub up : (y : ℕ) → y < n → getD hs y m < m → getD ns y 0 < n → getD ks y 0 < getD ks (getD ns y 0) 0
+  pub sentinels : (s : ℕ) → s < m → getD hs (n + s) m ≡ s
+  pub onward : length ns ≡ n + m
+  pub backward : length ps ≡ n + m
+  pub homes : length hs ≡ n + m
+  pub keys : length ks ≡ n

@@ -1,0 +1,5 @@
+pub mod ends;
+pub mod ledger;
+pub mod links;
+pub mod row;
+pub mod rows;
