@@ -38,6 +38,32 @@ open-says m deadline owner h =
       allowed = grind (arith, tells);
     }
 
+-- each answer of check, from what it tells
+module _ {P : Type 0} (m : Meaning P) (deadline owner : ℕ) where
+  pub check-past : deadline ≤ m .now → Some Past ≡ check-rule m deadline owner
+  unfolding check-rule
+  check-past h = grind (arith, tells)
+
+  pub check-late : m .now < deadline → m .last < deadline → Some Late ≡ check-rule m deadline owner
+  unfolding check-rule
+  check-late a h = grind (arith, tells)
+
+  pub check-owner : m .now < deadline → deadline ≤ m .last → 64 ≤ owner → Some Owner ≡ check-rule m deadline owner
+  unfolding check-rule
+  check-owner a b h = grind (arith, tells)
+
+  pub check-spent : m .now < deadline → deadline ≤ m .last → owner < 64 → m .given ≡ 4294967295 → Some Spent ≡ check-rule m deadline owner
+  unfolding check-rule
+  check-spent a b c h = grind (arith, tells)
+
+  pub check-full : m .now < deadline → deadline ≤ m .last → owner < 64 → m .given ≢ 4294967295 → length (m .pending) ≡ m .capacity → Some Full ≡ check-rule m deadline owner
+  unfolding check-rule
+  check-full a b c d h = grind (arith, tells)
+
+  pub check-open : m .now < deadline → deadline ≤ m .last → owner < 64 → m .given ≢ 4294967295 → length (m .pending) ≢ m .capacity → count owner (m .pending) < getD (m .limits) owner 0 → None ≡ check-rule m deadline owner
+  unfolding check-rule
+  check-open a b c d e h = grind (arith, tells)
+
 -- the refusal of a number
 fault-of : ℕ → TimerFault
 fault-of n = getD (Past ∷ Past ∷ Late ∷ Owner ∷ Spent ∷ Full ∷ Limit ∷ Missing ∷ Due ∷ Ended ∷ []) n Past

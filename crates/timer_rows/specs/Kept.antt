@@ -16,6 +16,7 @@ pub record Kept {P : Type 0} (rows : List (Row P)) (l : Ledger) : Type 0 where
   pub issued : (i : ℕ) → getD (tickets rows) i 0 ≤ l .given
   pub numbered : l .given < 2 ^ 32
   -- the counts are right
+  pub each : length (l .counts) ≡ 64
   pub sized : l .pending ≡ length (entries rows)
   pub counted : (o : ℕ) → o < 64 → getD (l .counts) o 0 ≡ count o (entries rows)
   pub owned : (i : ℕ) → getD (tickets rows) i 0 ≢ 0 → getD (owners rows) i 0 < 64

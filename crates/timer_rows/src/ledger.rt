@@ -1,3 +1,10 @@
+ghost use mathlib.Core.Path.{_≡_};
+ghost use mathlib.Core.Bool.{cond};
+ghost use Prim.Native.Nat.{ℕ, _+_, _^_, _<_, min};
+ghost use lib.Dec.{ltb};
+ghost use lib.ListN.{getD, replicate};
+ghost use Rattle.timer_rows.specs.Counts.{raised, lowered};
+
 /// What a store keeps beside its rows, whatever order it keeps them in.
 #[derive(Clone, Copy, Drop)]
 pub struct Ledger {
@@ -11,4 +18,49 @@ pub struct Ledger {
     pub pending: u16,
     /// How many of them each owner has.
     pub counts: [u16; 64],
+}
+
+impl Ledger {
+    /// The ledger of a store that has given no ticket; a first tick above the last counts as the last.
+    pub fn new(first: u32, last: u32) -> Ledger
+        ensures { λ r. ⌜ r ≡ record { now = min first last; last = last; given = 0; pending = 0; counts = replicate 64 0 } ⌝ }
+    {
+        Ledger {
+            now: first.min(last),
+            last,
+            given: 0,
+            pending: 0,
+            counts: [0; 64],
+        }
+    }
+
+    /// How many entries of the owner are pending; 0 for an owner above 63.
+    pub fn count(&self, owner: u8) -> usize
+        ensures { λ r. ⌜ r ≡ cond (ltb owner 64) (getD (now (self .entry) .counts) owner 0) 0 ⌝ }
+    {
+        if owner < 64 { self.counts[owner as usize] as usize } else { 0 }
+    }
+
+    /// Counts one more entry of the owner, and answers its ticket.
+    pub fn raise(&mut self, owner: u8) -> u32
+        requires known { ⌜ owner < 64 ⌝ }
+        requires fits { ⌜ (now self .given + 1 < 2 ^ 32) × (now self .pending + 1 < 2 ^ 16) × (getD (now self .counts) owner 0 + 1 < 2 ^ 16) ⌝ }
+        ensures ticket { λ r. ⌜ r ≡ now (self .entry) .given + 1 ⌝ }
+        ensures after { λ _. ⌜ now (self .exit) ≡ raised (now (self .entry)) owner ⌝ }
+    {
+        self.given += 1;
+        self.pending += 1;
+        self.counts[owner as usize] += 1;
+        self.given
+    }
+
+    /// Counts one entry less of the owner.
+    pub fn lower(&mut self, owner: u8)
+        requires known { ⌜ owner < 64 ⌝ }
+        requires some { ⌜ 0 < now self .pending ⌝ ∗ ⌜ 0 < getD (now self .counts) owner 0 ⌝ }
+        ensures { λ _. ⌜ now (self .exit) ≡ lowered (now (self .entry)) owner ⌝ }
+    {
+        self.pending -= 1;
+        self.counts[owner as usize] -= 1;
+    }
 }

@@ -1,4 +1,5 @@
 pub mod ends;
+pub mod entries;
 pub mod ledger;
 pub mod links;
 pub mod row;

@@ -1,0 +1,31 @@
+use mathlib.Core.Path.{_≡_, refl, ap, _∙_}
+use Rattle.std.proofs.shelf.Lists.{map-set}
+use Rattle.timer.proofs.Checks.{open-says}
+use Rattle.timer_rows.specs.declared.row.Row.{Row}
+use Rattle.timer_rows.specs.Rows.{meant}
+use Rattle.timer_rows.proofs.Keeping.{enter-fits, kept-enter, meant-enter, column-same}
+use Rattle.timer_rows.proofs.entries.enter.Needs as need
+
+pub raise-ticket-requires : need.raise-ticket-requires
+raise-ticket-requires g c κs =
+    let o = open-says (meant (c .args .rows .now) (c .args .ledger .now)) (c .args .deadline) (c .args .owner) (c .pre .allowed) in
+    record { known = o .known; fits = enter-fits (c .args .rows .now) (c .args .ledger .now) (c .pre .kept) (c .args .deadline) (c .args .owner) o }
+
+pub returns : need.returns
+returns g c =
+    let rows = c .args .rows .now in
+    let l = c .args .ledger .now in
+    let x = c .args .x in
+    let s = c .index-rows-x .result in
+    let t = c .raise-ticket .result in
+    let r : Row (g .P .Denot) = record { ticket = t; deadline = c .args .deadline; next = s .next; prev = s .prev; owner = c .args .owner; payload = c .args .payload } in
+    let o = open-says (meant rows l) (c .args .deadline) (c .args .owner) (c .pre .allowed) in
+    record {
+      ticket = c .raise-ticket .ensures .ticket;
+      kept = rw (c .raise-ticket .ensures .after) (kept-enter rows l (c .pre .kept) x r (c .pre .vacant .0) (c .pre .vacant .1) o (c .raise-ticket .ensures .ticket));
+      meant = rw (c .raise-ticket .ensures .after) (meant-enter rows l (c .pre .kept) x r (c .pre .vacant .0) (c .pre .vacant .1) o (c .raise-ticket .ensures .ticket));
+      tickets = map-set (λ r. r .ticket) rows x r;
+      deadlines = map-set (λ r. r .deadline) rows x r;
+      nexts = column-same (λ r. r .next) rows x r s (c .pre .vacant .0) (ap (λ (q : Row (g .P .Denot)). q .next) (c .index-rows-x .is));
+      prevs = column-same (λ r. r .prev) rows x r s (c .pre .vacant .0) (ap (λ (q : Row (g .P .Denot)). q .prev) (c .index-rows-x .is));
+    }
