@@ -19,28 +19,15 @@ use Rattle.timer_rows.specs.declared.ledger.Ledger.{Ledger}
 use Rattle.timer_rows.specs.Rows.{tickets, deadlines, owners, entry-of, entries, meant}
 use Rattle.timer_rows.specs.Counts.{raised, lowered}
 use Rattle.timer_rows.specs.Kept.{Kept}
+use Rattle.timer_rows.proofs.Columns.{column-same, set-cases}
 use Rattle.timer_rows.proofs.Pending.{count-push, count-without, count-most, length-without, entries-enter, entries-leave, entries-find, entries-most}
-
--- a list of numbers with one changed, at any place
-pub set-cases : (xs : List ℕ) (x v i : ℕ) → x < length xs → ((i ≡ x) × (getD (set xs x v) i 0 ≡ v)) ⊎ ((i ≢ x) × (getD (set xs x v) i 0 ≡ getD xs i 0))
-set-cases xs x v i l =
-    ⊎-elim
-    (λ (e : i ≡ x). inl (e, ap (λ k. getD (set xs x v) k 0) e ∙ getD-set-same xs x v 0 l))
-    (λ (n : i ≢ x). inr (n, getD-set-other xs x i v 0 n))
-    (cases-eq i x)
 
 module _ {P : Type 0} where
   -- a column of rows of which one is changed, at any place
   pub column-cases : (f : Row P → ℕ) (rows : List (Row P)) (x : ℕ) (r : Row P) (i : ℕ) → x < length rows → ((i ≡ x) × (getD (map f (set rows x r)) i 0 ≡ f r)) ⊎ ((i ≢ x) × (getD (map f (set rows x r)) i 0 ≡ getD (map f rows) i 0))
   column-cases f rows x r i l =
       subst (λ col. ((i ≡ x) × (getD col i 0 ≡ f r)) ⊎ ((i ≢ x) × (getD col i 0 ≡ getD (map f rows) i 0))) (sym (map-set f rows x r))
-      (set-cases (map f rows) x (f r) i (omega (arith, length-map rows f)))
-
-  -- a column in which the changed row has what it had
-  pub column-same : {Y : Type 0} (f : Row P → Y) (rows : List (Row P)) (x : ℕ) (r d : Row P) → x < length rows → f r ≡ f (getD rows x d) → map f (set rows x r) ≡ map f rows
-  column-same f [] x r d l e = refl
-  column-same f (s ∷ rs) zero r d l e = ap (λ y. y ∷ map f rs) e
-  column-same f (s ∷ rs) (suc x) r d l e = ap (λ c. f s ∷ c) (column-same f rs x r d (omega arith) e)
+      (set-cases (map f rows) x (f r) 0 i (omega (arith, length-map rows f)))
 
   -- a count that changes for one owner
   counts-more : (cs : List ℕ) (es : List (Entry P)) (e : Entry P) (o : ℕ) → length cs ≡ 64 → e .owner < 64 → o < 64 → ((o : ℕ) → o < 64 → getD cs o 0 ≡ count o es) → getD (set cs (e .owner) (getD cs (e .owner) 0 + 1)) o 0 ≡ count o (es ++ e ∷ [])
@@ -49,7 +36,7 @@ module _ {P : Type 0} where
       ⊎-elim
       (λ q. let a = c (e .owner) w in let b = q .0 in let d = q .1 in subst (λ k. getD (set cs (e .owner) (getD cs (e .owner) 0 + 1)) k 0 ≡ count k (es ++ e ∷ [])) (sym b) (getD-set-same cs (e .owner) _ 0 (omega arith) ∙ (let z = count-push (e .owner) es e in grind (arith, tells))))
       (λ q. let a = c o h in let b = q .0 in let d = q .1 in d ∙ a ∙ grind (arith, tells))
-      (set-cases cs (e .owner) (getD cs (e .owner) 0 + 1) o (omega arith))
+      (set-cases cs (e .owner) (getD cs (e .owner) 0 + 1) 0 o (omega arith))
 
   counts-less : (cs : List ℕ) (es : List (Entry P)) (t : ℕ) (e : Entry P) (o : ℕ) → length cs ≡ 64 → e .owner < 64 → o < 64 → find t es ≡ Some e → ((o : ℕ) → o < 64 → getD cs o 0 ≡ count o es) → getD (set cs (e .owner) (getD cs (e .owner) 0 - 1)) o 0 ≡ count o (without t es)
   counts-less cs es t e o n w h f c =
@@ -57,7 +44,7 @@ module _ {P : Type 0} where
       ⊎-elim
       (λ q. let b = q .0 in subst (λ k. getD (set cs (e .owner) (getD cs (e .owner) 0 - 1)) k 0 ≡ count k (without t es)) (sym b) (getD-set-same cs (e .owner) _ 0 (omega arith) ∙ (let a = c (e .owner) w in let z = count-without (e .owner) t es e f in grind (arith, tells))))
       (λ q. let a = c o h in let b = q .0 in q .1 ∙ a ∙ grind (arith, tells))
-      (set-cases cs (e .owner) (getD cs (e .owner) 0 - 1) o (omega arith))
+      (set-cases cs (e .owner) (getD cs (e .owner) 0 - 1) 0 o (omega arith))
 
 -- the numbers that an entry raises fit their types
 pub enter-fits : {P : Type 0} (rows : List (Row P)) (l : Ledger) → Kept rows l → (deadline owner : ℕ) → Open (meant rows l) deadline owner → (l .given + 1 < 2 ^ 32) × (l .pending + 1 < 2 ^ 16) × (getD (l .counts) owner 0 + 1 < 2 ^ 16)

@@ -1,2 +1,4 @@
+pub mod Columns
 pub mod Pending
 pub mod Keeping
+pub mod Linking

@@ -15,12 +15,19 @@ ons rows es = nexts rows ++ map (λ e. e .head) es
 abbrev pub backs : {P : Type 0} → List (Row P) → List Ends → List ℕ
 backs rows es = prevs rows ++ map (λ e. e .tail) es
 
--- ns and ps are the links, hs the slot of each node (m for a row that is in none), ks the key of each row.
--- Each node leads on to one of its slot, which leads back to it, and back to one that leads on to it; along the links the keys rise.
--- As keys rise, no rows form a ring of their own: each slot is one list, from its sentinel through all of its rows and back.
+-- ns and ps are links of the nodes, hs is the slot of each node, or m for a row that is in none.
+-- Each node leads by ns to a node of its slot, from which ps leads back to it.
+abbrev pub Leads : List ℕ → List ℕ → List ℕ → ℕ → ℕ → Type 0
+Leads ns ps hs n m =
+    (y : ℕ)
+    → getD hs y m < m
+    → (getD ns y 0 < n + m) × (getD hs (getD ns y 0) m ≡ getD hs y m) × (getD ps (getD ns y 0) 0 ≡ y)
+
+-- The slots with the links onward ns and back ps, where ks is the key of each row: along the links the keys rise.
+-- As they rise, no rows form a ring of their own: each slot is one list, from its sentinel through all of its rows and back.
 pub record Linked (ns ps hs ks : List ℕ) (n m : ℕ) : Type 0 where
-  pub on : (y : ℕ) → getD hs y m < m → (getD ns y 0 < n + m) × (getD hs (getD ns y 0) m ≡ getD hs y m) × (getD ps (getD ns y 0) 0 ≡ y)
-  pub back : (y : ℕ) → getD hs y m < m → (getD ps y 0 < n + m) × (getD hs (getD ps y 0) m ≡ getD hs y m) × (getD ns (getD ps y 0) 0 ≡ y)
+  pub on : Leads ns ps hs n m
+  pub back : Leads ps ns hs n m
   pub up : (y : ℕ) → y < n → getD hs y m < m → getD ns y 0 < n → getD ks y 0 < getD ks (getD ns y 0) 0
   pub sentinels : (s : ℕ) → s < m → getD hs (n + s) m ≡ s
   pub onward : length ns ≡ n + m

@@ -42,10 +42,18 @@ abbrev pub placed : {P : Type 0} → Entry P → List (Entry P) → List (Entry 
 placed e [] = e ∷ []
 placed e (f ∷ fs) = cond (ltb (e .ticket) (f .ticket)) (e ∷ f ∷ fs) (f ∷ placed e fs)
 
--- the entries of the rows that hold one, in the order of their tickets
+-- those that have a ticket, in the order of their tickets
+abbrev pub listed : {P : Type 0} → List (Entry P) → List (Entry P)
+listed [] = []
+listed (e ∷ es) = cond (eqb (e .ticket) 0) (listed es) (placed e (listed es))
+
+-- what the rows hold beside their links
+abbrev pub contents : {P : Type 0} → List (Row P) → List (Entry P)
+contents rows = map entry-of rows
+
+-- the pending entries
 abbrev pub entries : {P : Type 0} → List (Row P) → List (Entry P)
-entries [] = []
-entries (r ∷ rs) = cond (eqb (r .ticket) 0) (entries rs) (placed (entry-of r) (entries rs))
+entries rows = listed (contents rows)
 
 -- the store that the rows and the ledger are: its capacity is the number of rows, and so is every owner's limit
 abbrev pub meant : {P : Type 0} → List (Row P) → Ledger → Meaning P

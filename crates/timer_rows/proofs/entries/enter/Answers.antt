@@ -3,7 +3,8 @@ use Rattle.std.proofs.shelf.Lists.{map-set}
 use Rattle.timer.proofs.Checks.{open-says}
 use Rattle.timer_rows.specs.declared.row.Row.{Row}
 use Rattle.timer_rows.specs.Rows.{meant}
-use Rattle.timer_rows.proofs.Keeping.{enter-fits, kept-enter, meant-enter, column-same}
+use Rattle.timer_rows.proofs.Columns.{column-same}
+use Rattle.timer_rows.proofs.Keeping.{enter-fits, kept-enter, meant-enter}
 use Rattle.timer_rows.proofs.entries.enter.Needs as need
 
 pub raise-ticket-requires : need.raise-ticket-requires

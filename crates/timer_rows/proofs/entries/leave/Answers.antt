@@ -4,7 +4,8 @@ use Rattle.timer_rows.specs.declared.ledger.Ledger.{Ledger}
 use Rattle.timer_rows.specs.declared.row.Row.{Row}
 use Rattle.timer_rows.specs.Kept.{Kept}
 use Rattle.timer_rows.specs.Rows.{meant}
-use Rattle.timer_rows.proofs.Keeping.{leave-known, leave-some, kept-leave, meant-leave, column-same}
+use Rattle.timer_rows.proofs.Columns.{column-same}
+use Rattle.timer_rows.proofs.Keeping.{leave-known, leave-some, kept-leave, meant-leave}
 use Rattle.timer_rows.proofs.entries.leave.Needs as need
 
 pub lower-requires : need.lower-requires
