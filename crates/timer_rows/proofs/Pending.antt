@@ -16,7 +16,7 @@ use Rattle.std.proofs.shelf.Tests.{cases-bool, cases-eq, eqb-true, eqb-false, e
 use Rattle.timer.specs.Meaning.{Entry, Rising}
 use Rattle.timer.specs.Rules.{count, find, without, first-due}
 use Rattle.timer_rows.specs.declared.row.Row.{Row}
-use Rattle.timer_rows.specs.Rows.{tickets, deadlines, entry-of, placed, entries}
+use Rattle.timer_rows.specs.Rows.{tickets, deadlines, entry-of, placed, entries, None-due, Foremost}
 
 -- no entry of the list has the ticket
 abbrev pub Lacks : {P : Type 0} → ℕ → List (Entry P) → Type 0
@@ -231,7 +231,7 @@ module _ {P : Type 0} where
       find-none t (entries rows)
       (all-entries (λ e. e .ticket ≢ t) rows (λ i d l n. let e = ticket-at rows i d l in subst (λ k. k ≢ t) e (h i l (subst (λ k. k ≢ 0) (sym e) n))))
 
-  pub none-due : (n : ℕ) (rows : List (Row P)) → ((i : ℕ) → i < length rows → getD (tickets rows) i 0 ≢ 0 → getD (deadlines rows) i 0 ≢ n) → first-due n (entries rows) ≡ None
+  pub none-due : (n : ℕ) (rows : List (Row P)) → None-due n rows → first-due n (entries rows) ≡ None
   none-due n rows h =
       due-none n (entries rows)
       (all-entries (λ e. e .deadline ≢ n) rows (λ i d l k. subst (λ k. k ≢ n) (deadline-at rows i d l) (h i l (subst (λ k. k ≢ 0) (sym (ticket-at rows i d l)) k))))
@@ -301,13 +301,7 @@ module _ {P : Type 0} where
       rw q (find-other (getD (tickets rs) x 0) (entry-of s) (entries rs) m ∙ i))
       (cases-bool (eqb (s .ticket) 0))
 
-  -- a row whose entry is due, and whose ticket is the lowest of those that are
-  pub record Foremost (n : ℕ) (rows : List (Row P)) (x : ℕ) : Type 0 where
-    pub row : x < length rows
-    pub live : getD (tickets rows) x 0 ≢ 0
-    pub due : getD (deadlines rows) x 0 ≡ n
-    pub least : (i : ℕ) → i ≢ x → getD (tickets rows) i 0 ≢ 0 → getD (deadlines rows) i 0 ≡ n → getD (tickets rows) x 0 < getD (tickets rows) i 0
-
+  -- the row with the lowest ticket of those that are due
   foremost-rest : (n : ℕ) (s : Row P) (rs : List (Row P)) (x : ℕ) → Foremost n (s ∷ rs) (suc x) → Foremost n rs x
   foremost-rest n s rs x f =
       record { row = omega (arith, f .row); live = f .live; due = f .due; least = λ i k. f .least (suc i) (λ e. k (omega arith)) }

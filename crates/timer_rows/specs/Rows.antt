@@ -2,6 +2,7 @@
 use mathlib.Core.Path.{_≡_}
 use mathlib.Core.List.{List, [], _∷_, map}
 use mathlib.Core.Bool.{cond}
+use mathlib.Core.Logic.{_≢_}
 use Prim.Native.Nat.{ℕ, _<_}
 use lib.Dec.{ltb, eqb}
 use lib.ListN.{length, getD, take, drop, replicate}
@@ -37,6 +38,14 @@ prevs rows = map (λ r. r .prev) rows
 abbrev pub entry-of : {P : Type 0} → Row P → Entry P
 entry-of r = record { ticket = r .ticket; deadline = r .deadline; owner = r .owner; payload = r .payload }
 
+-- a row with an entry put into it, and one whose entry was given up: its links stay
+abbrev pub filled : {P : Type 0} → Row P → ℕ → ℕ → ℕ → P → Row P
+filled r t d o p = record { ticket = t; deadline = d; next = r .next; prev = r .prev; owner = o; payload = p }
+
+abbrev pub vacated : {P : Type 0} → Row P → Row P
+vacated r =
+    record { ticket = 0; deadline = r .deadline; next = r .next; prev = r .prev; owner = r .owner; payload = r .payload }
+
 -- an entry put among others by its ticket
 abbrev pub placed : {P : Type 0} → Entry P → List (Entry P) → List (Entry P)
 placed e [] = e ∷ []
@@ -71,3 +80,14 @@ meant rows l =
 abbrev pub Sought : {P : Type 0} → List (Row P) → ℕ → Option ℕ → Type 0
 Sought rows t r =
     Cases r ((i : ℕ) → i < length rows → getD (tickets rows) i 0 ≡ t → ⊥) (λ i. (i < length rows) × (getD (tickets rows) i 0 ≡ t))
+
+-- none of the rows holds an entry that is due at n
+abbrev pub None-due : {P : Type 0} → ℕ → List (Row P) → Type 0
+None-due n rows = (i : ℕ) → i < length rows → getD (tickets rows) i 0 ≢ 0 → getD (deadlines rows) i 0 ≢ n
+
+-- the row x holds an entry that is due at n, and its ticket is the lowest of those that are
+pub record Foremost {P : Type 0} (n : ℕ) (rows : List (Row P)) (x : ℕ) : Type 0 where
+  pub row : x < length rows
+  pub live : getD (tickets rows) x 0 ≢ 0
+  pub due : getD (deadlines rows) x 0 ≡ n
+  pub least : (i : ℕ) → i ≢ x → getD (tickets rows) i 0 ≢ 0 → getD (deadlines rows) i 0 ≡ n → getD (tickets rows) x 0 < getD (tickets rows) i 0

@@ -6,7 +6,7 @@ ghost use lib.ListN.{length, getD, set, replicate};
 ghost use Rattle.std.specs.declared.option.Option.the-variants.{None};
 ghost use Rattle.timer.specs.Rules.{check-rule, entered, with-pending, without};
 ghost use Rattle.timer_rows.specs.Kept.{Kept};
-ghost use Rattle.timer_rows.specs.Rows.{tickets, deadlines, nexts, prevs, entries, meant};
+ghost use Rattle.timer_rows.specs.Rows.{tickets, filled, vacated, entries, meant};
 use crate::ledger::Ledger;
 use crate::row::Row;
 use timer::fault::TimerFault;
@@ -50,10 +50,7 @@ pub fn enter<P: Copy>(rows: &mut [Row<P>], ledger: &mut Ledger, x: usize, deadli
     ensures ticket { λ r. ⌜ r ≡ now (ledger .entry) .given + 1 ⌝ }
     ensures kept { λ _. ⌜ Kept (now (rows .exit)) (now (ledger .exit)) ⌝ }
     ensures meant { λ _. ⌜ meant (now (rows .exit)) (now (ledger .exit)) ≡ entered (meant (now (rows .entry)) (now (ledger .entry))) deadline owner payload ⌝ }
-    ensures tickets { λ r. ⌜ tickets (now (rows .exit)) ≡ set (tickets (now (rows .entry))) x r ⌝ }
-    ensures deadlines { λ _. ⌜ deadlines (now (rows .exit)) ≡ set (deadlines (now (rows .entry))) x deadline ⌝ }
-    ensures nexts { λ _. ⌜ nexts (now (rows .exit)) ≡ nexts (now (rows .entry)) ⌝ }
-    ensures prevs { λ _. ⌜ prevs (now (rows .exit)) ≡ prevs (now (rows .entry)) ⌝ }
+    ensures rows { λ r. ⌜ ((d : Row P) → now (rows .exit) ≡ set (now (rows .entry)) x (filled (getD (now (rows .entry)) x d) r deadline owner payload)) ⌝ }
 {
     let row = rows[x];
     let ticket = ledger.raise(owner);
@@ -74,10 +71,7 @@ pub fn leave<P: Copy>(rows: &mut [Row<P>], ledger: &mut Ledger, x: usize)
     requires live { ⌜ x < length (now rows) ⌝ ∗ ⌜ getD (tickets (now rows)) x 0 ≢ 0 ⌝ }
     ensures kept { λ _. ⌜ Kept (now (rows .exit)) (now (ledger .exit)) ⌝ }
     ensures meant { λ _. ⌜ meant (now (rows .exit)) (now (ledger .exit)) ≡ with-pending (meant (now (rows .entry)) (now (ledger .entry))) (without (getD (tickets (now (rows .entry))) x 0) (entries (now (rows .entry)))) ⌝ }
-    ensures tickets { λ _. ⌜ tickets (now (rows .exit)) ≡ set (tickets (now (rows .entry))) x 0 ⌝ }
-    ensures deadlines { λ _. ⌜ deadlines (now (rows .exit)) ≡ deadlines (now (rows .entry)) ⌝ }
-    ensures nexts { λ _. ⌜ nexts (now (rows .exit)) ≡ nexts (now (rows .entry)) ⌝ }
-    ensures prevs { λ _. ⌜ prevs (now (rows .exit)) ≡ prevs (now (rows .entry)) ⌝ }
+    ensures rows { λ _. ⌜ ((d : Row P) → now (rows .exit) ≡ set (now (rows .entry)) x (vacated (getD (now (rows .entry)) x d))) ⌝ }
 {
     let row = rows[x];
     rows[x] = Row { ticket: 0, ..row };

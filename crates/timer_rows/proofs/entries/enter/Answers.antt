@@ -1,9 +1,9 @@
 use mathlib.Core.Path.{_≡_, refl, ap, _∙_}
-use Rattle.std.proofs.shelf.Lists.{map-set}
+use lib.ListN.{set}
+use Rattle.std.proofs.shelf.Lists.{getD-default}
 use Rattle.timer.proofs.Checks.{open-says}
 use Rattle.timer_rows.specs.declared.row.Row.{Row}
-use Rattle.timer_rows.specs.Rows.{meant}
-use Rattle.timer_rows.proofs.Columns.{column-same}
+use Rattle.timer_rows.specs.Rows.{filled, meant}
 use Rattle.timer_rows.proofs.Keeping.{enter-fits, kept-enter, meant-enter}
 use Rattle.timer_rows.proofs.entries.enter.Needs as need
 
@@ -25,8 +25,5 @@ returns g c =
       ticket = c .raise-ticket .ensures .ticket;
       kept = rw (c .raise-ticket .ensures .after) (kept-enter rows l (c .pre .kept) x r (c .pre .vacant .0) (c .pre .vacant .1) o (c .raise-ticket .ensures .ticket));
       meant = rw (c .raise-ticket .ensures .after) (meant-enter rows l (c .pre .kept) x r (c .pre .vacant .0) (c .pre .vacant .1) o (c .raise-ticket .ensures .ticket));
-      tickets = map-set (λ r. r .ticket) rows x r;
-      deadlines = map-set (λ r. r .deadline) rows x r;
-      nexts = column-same (λ r. r .next) rows x r s (c .pre .vacant .0) (ap (λ (q : Row (g .P .Denot)). q .next) (c .index-rows-x .is));
-      prevs = column-same (λ r. r .prev) rows x r s (c .pre .vacant .0) (ap (λ (q : Row (g .P .Denot)). q .prev) (c .index-rows-x .is));
+      rows = λ d. ap (λ (q : Row (g .P .Denot)). set rows x (filled q t (c .args .deadline) (c .args .owner) (c .args .payload))) (c .index-rows-x .is ∙ getD-default rows x s d (c .pre .vacant .0));
     }

@@ -10,7 +10,7 @@ use Rattle.std.specs.declared.option.Option.the-variants.{Some, None}
 use Rattle.std.proofs.shelf.Tests.{cases-lt}
 use Rattle.timer_rows.specs.declared.row.Row.{Row}
 use Rattle.timer_rows.specs.Rows.{tickets, Sought}
-use Rattle.timer_rows.proofs.rows.find.Needs as need
+use Rattle.timer_rows.proofs.rows.seek_from.Needs as need
 
 -- nothing from `home` on, and then the answer to a search before `home`
 joined : {P : Type 0} (rows : List (Row P)) (home t : ℕ) (r : Option ℕ) → ((i : ℕ) → i < length rows → home ≤ i → getD (tickets rows) i 0 ≡ t → ⊥) → Cases r ((i : ℕ) → i < home → 0 ≤ i → getD (tickets rows) i 0 ≡ t → ⊥) (λ i. (i < length rows) × (getD (tickets rows) i 0 ≡ t)) → Sought rows t r

@@ -1,0 +1,3 @@
+pub mod list;
+mod sorted;
+pub mod state;
