@@ -1,6 +1,6 @@
 -- A doubly linked list of the rows that hold an entry, by deadline and then by ticket.
 use mathlib.Core.Path.{_≡_}
-use mathlib.Core.List.{List, [], _∷_, _++_, map}
+use mathlib.Core.List.{List, [], _∷_}
 use mathlib.Core.Bool.{cond}
 use Prim.Native.Nat.{ℕ, _+_, _*_, _<_, _≤_}
 use lib.Dec.{eqb}
@@ -9,8 +9,8 @@ use Rattle.timer.specs.Meaning.{Entry}
 use Rattle.timer_rows.specs.declared.row.Row.{Row}
 use Rattle.timer_rows.specs.declared.ends.Ends.{Ends}
 use Rattle.timer_rows.specs.Kept.{Kept}
-use Rattle.timer_rows.specs.Links.{ons, backs, Linked}
-use Rattle.timer_rows.specs.Rows.{deadlines, entry-of}
+use Rattle.timer_rows.specs.Links.{backs, homes-by, keys-by, Slots}
+use Rattle.timer_rows.specs.Rows.{deadlines}
 use Rattle.timer_list.specs.declared.state.State.{State}
 
 -- there is one slot, 0: a row that holds an entry is in it, and a vacant one in none
@@ -23,13 +23,17 @@ key e = e .deadline * 4294967296 + e .ticket
 
 -- the slot of each node, the sentinel last, and the key of each row
 abbrev pub homes : {P : Type 0} → List (Row P) → List ℕ
-homes rows = map (λ r. home (entry-of r)) rows ++ 0 ∷ []
+homes rows = homes-by home (0 ∷ []) rows
 
 abbrev pub keys : {P : Type 0} → List (Row P) → List ℕ
-keys rows = map (λ r. key (entry-of r)) rows
+keys rows = keys-by key rows
+
+-- a number above all keys
+abbrev pub top : State → ℕ
+top s = (s .ledger .last + 1) * 4294967296
 
 abbrev pub Sorted : {P : Type 0} → List (Row P) → List Ends → Type 0
-Sorted rows es = Linked (ons rows es) (backs rows es) (homes rows) (keys rows) (length rows) 1
+Sorted rows es = Slots home (0 ∷ []) key rows es 1
 
 -- what the list keeps true
 pub record Held {P : Type 0} (rows : List (Row P)) (s : State) : Type 0 where

@@ -1,3 +1,2 @@
-pub mod list;
 mod sorted;
 pub mod state;

@@ -21,15 +21,57 @@ use timer_rows::rows::row_of;
 use timer_rows::rows::vacant;
 
 // The node before which an entry with the deadline goes, sought from the front.
-pub(crate) fn spot<P: Copy>(rows: &[Row<P>], ends: &[Ends; 1], deadline: u32) -> u16
-    requires few { ⌜ length (now rows) ≤ 4096 ⌝ }
-    requires tickets { ⌜ ((i : ℕ) → getD (tickets (now rows)) i 0 < 4294967296) ⌝ }
-    requires sorted { ⌜ Sorted (now rows) (now ends) ⌝ }
-    ensures { λ r. ⌜ Spot (now (rows .entry)) (now (ends .entry)) deadline r ⌝ }
+pub(crate) fn spot<P: Copy>(rows: &[Row<P>], at: &State, deadline: u32) -> u16
+    requires { ⌜ Held (now rows) (now at) ⌝ }
+    ensures { λ r. ⌜ Spot (now (rows .entry)) (now (at .entry) .ends) deadline r ⌝ }
 {
-    let mut node = ends[0].head;
-    while (node as usize) < rows.len() && rows[node as usize].deadline <= deadline {
-        node = rows[node as usize].next;
+    let mut node = at.ends[0].head;
+    while (node as usize) < rows.len() {
+        let row = rows[node as usize];
+        if deadline < row.deadline {
+            return node;
+        }
+        node = row.next;
     }
     node
+}
+
+// Adds an entry that check does not refuse, and answers its ticket.
+pub(crate) fn insert<P: Copy>(rows: &mut [Row<P>], at: &mut State, deadline: u32, owner: u8, payload: P) -> u32
+    requires held { ⌜ Held (now rows) (now at) ⌝ }
+    requires allowed { ⌜ check-rule (meant (now rows) (now at .ledger)) deadline owner ≡ None ⌝ }
+    ensures ticket { λ r. ⌜ r ≡ now (at .entry) .ledger .given + 1 ⌝ }
+    ensures held { λ _. ⌜ Held (now (rows .exit)) (now (at .exit)) ⌝ }
+    ensures meant { λ _. ⌜ meant (now (rows .exit)) (now (at .exit) .ledger) ≡ entered (meant (now (rows .entry)) (now (at .entry) .ledger)) deadline owner payload ⌝ }
+{
+    let node = spot(rows, at, deadline);
+    let State { ledger, ends } = at;
+    let x = vacant(rows, ledger);
+    let ticket = enter(rows, ledger, x, deadline, owner, payload);
+    link(rows, ends, x as u16, node);
+    ticket
+}
+
+// Gives up the entry of a row.
+pub(crate) fn remove<P: Copy>(rows: &mut [Row<P>], at: &mut State, x: usize)
+    requires held { ⌜ Held (now rows) (now at) ⌝ }
+    requires live { ⌜ (x < length (now rows)) × (getD (tickets (now rows)) x 0 ≢ 0) ⌝ }
+    ensures held { λ _. ⌜ Held (now (rows .exit)) (now (at .exit)) ⌝ }
+    ensures meant { λ _. ⌜ meant (now (rows .exit)) (now (at .exit) .ledger) ≡ with-pending (meant (now (rows .entry)) (now (at .entry) .ledger)) (without (getD (tickets (now (rows .entry))) x 0) (entries (now (rows .entry)))) ⌝ }
+{
+    let State { ledger, ends } = at;
+    unlink(rows, ends, x as u16);
+    leave(rows, ledger, x);
+}
+
+// The row of the due entry with the lowest ticket: the list's first row, if that is due.
+pub(crate) fn first_due<P: Copy>(rows: &[Row<P>], at: &State) -> Option<usize>
+    requires { ⌜ Held (now rows) (now at) ⌝ }
+    ensures { λ r. ⌜ Cases r (None-due (now (at .entry) .ledger .now) (now (rows .entry))) (λ x. Foremost (now (at .entry) .ledger .now) (now (rows .entry)) x) ⌝ }
+{
+    let x = at.ends[0].head as usize;
+    if x >= rows.len() {
+        return None;
+    }
+    if rows[x].deadline == at.ledger.now { Some(x) } else { None }
 }

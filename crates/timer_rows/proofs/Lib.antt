@@ -1,7 +1,9 @@
 pub mod Columns
 pub mod Pending
+pub mod Cells
 pub mod Keeping
 pub mod Linking
 pub mod Same
+pub mod Moves
 pub mod Parts
 pub mod Props

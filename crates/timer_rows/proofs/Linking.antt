@@ -175,6 +175,23 @@ module _ (ns ps hs ks : List ℕ) (n m : ℕ) (k : Linked ns ps hs ks n m) where
           keys = length-set ks x v ∙ k .keys;
         }
 
+  -- the key of a row that is in no slot does not matter
+  pub linked-key : (x v : ℕ) → x < n → m ≤ getD hs x m → Linked ns ps hs (set ks x v) n m
+  linked-key x v xn free =
+      record {
+        on = k .on;
+        back = k .back;
+        up = λ y yn yh l.
+            let yx : y ≢ x = λ e. omega (arith, ap (λ i. getD hs i m) e) in
+            let zx : getD ns y 0 ≢ x = λ e. omega (arith, k .on y yh .1, ap (λ i. getD hs i m) e) in
+            rw (getD-set-other ks x y v 0 yx, getD-set-other ks x (getD ns y 0) v 0 zx) (k .up y yn yh l);
+        sentinels = k .sentinels;
+        onward = k .onward;
+        backward = k .backward;
+        homes = k .homes;
+        keys = length-set ks x v ∙ k .keys;
+      }
+
   -- the first row of a slot has its lowest key
   pub record First (s x : ℕ) : Type 0 where
     pub row : getD ns (n + s) 0 < n
@@ -206,3 +223,7 @@ module _ (ns ps hs ks : List ℕ) (n m : ℕ) (k : Linked ns ps hs ks n m) where
 
   pub first : (s x : ℕ) → x < n → getD hs x m ≡ s → s < m → First s x
   first s x xn h sm = first-by (suc (getD ks x 0)) s x (omega arith) xn h sm
+
+-- slots over columns that are equal
+pub linked-at : {ns ns' ps ps' hs hs' ks ks' : List ℕ} {n n' : ℕ} (m : ℕ) → ns' ≡ ns → ps' ≡ ps → hs' ≡ hs → ks' ≡ ks → n' ≡ n → Linked ns ps hs ks n m → Linked ns' ps' hs' ks' n' m
+linked-at m en ep eh ek e k = rw (en, ep, eh, ek, e) k

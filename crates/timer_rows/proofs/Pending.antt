@@ -10,9 +10,9 @@ use lib.ListN.{length, getD, set}
 use Rattle.std.specs.shelf.Lists.{All}
 use Rattle.std.specs.declared.option.Option.{Option}
 use Rattle.std.specs.declared.option.Option.the-variants.{Some, None}
-use Rattle.std.proofs.shelf.Lists.{getD-map}
+use Rattle.std.proofs.shelf.Lists.{getD-map, getD-past, length-map}
 use Rattle.std.proofs.shelf.Ways.{tells}
-use Rattle.std.proofs.shelf.Tests.{cases-bool, cases-eq, eqb-true, eqb-false, eq-eqb, ne-eqb, ltb-true, ltb-false, lt-ltb, le-ltb}
+use Rattle.std.proofs.shelf.Tests.{cases-bool, cases-eq, cases-lt, eqb-true, eqb-false, eq-eqb, ne-eqb, ltb-true, ltb-false, lt-ltb, le-ltb}
 use Rattle.timer.specs.Meaning.{Entry, Rising}
 use Rattle.timer.specs.Rules.{count, find, without, first-due}
 use Rattle.timer_rows.specs.declared.row.Row.{Row}
@@ -222,6 +222,14 @@ module _ {P : Type 0} where
   -- a column of the rows, at a row
   pub ticket-at : (rows : List (Row P)) (i : ℕ) (d : Row P) → i < length rows → getD (tickets rows) i 0 ≡ getD rows i d .ticket
   ticket-at rows i d l = getD-map (λ r. r .ticket) rows i d 0 l
+
+  -- only a row has a ticket
+  pub live-row : (rows : List (Row P)) (i : ℕ) → getD (tickets rows) i 0 ≢ 0 → i < length rows
+  live-row rows i n =
+      ⊎-elim
+      (λ (h : i < length rows). h)
+      (λ (h : length rows ≤ i). absurd (n (getD-past (tickets rows) i 0 (omega (arith, length-map rows (λ r. r .ticket))))))
+      (cases-lt i (length rows))
 
   pub deadline-at : (rows : List (Row P)) (i : ℕ) (d : Row P) → i < length rows → getD (deadlines rows) i 0 ≡ getD rows i d .deadline
   deadline-at rows i d l = getD-map (λ r. r .deadline) rows i d 0 l

@@ -1,19 +1,18 @@
 -- A store whose links changed, or whose clock went on, and nothing else.
 use mathlib.Core.Path.{_≡_, refl, sym, ap, subst, _∙_}
 use mathlib.Core.List.{List, [], _∷_, map}
-use mathlib.Core.Logic.{_≢_, ⊎-elim}
+use mathlib.Core.Logic.{_≢_}
 use Prim.Native.Nat.{ℕ, _+_, _<_, _≤_, min}
 use native.Mathlib.Omega.{arith}
 use lib.ListN.{length, getD, replicate}
-use Rattle.std.proofs.shelf.Lists.{length-map, length-replicate, getD-replicate, getD-past}
-use Rattle.std.proofs.shelf.Tests.{cases-lt}
+use Rattle.std.proofs.shelf.Lists.{length-map, length-replicate, getD-replicate}
 use Rattle.timer.specs.Meaning.{Entry, Meaning}
 use Rattle.timer.specs.Rules.{count}
 use Rattle.timer_rows.specs.declared.row.Row.{Row}
 use Rattle.timer_rows.specs.declared.ledger.Ledger.{Ledger}
 use Rattle.timer_rows.specs.Kept.{Kept}
 use Rattle.timer_rows.specs.Rows.{tickets, deadlines, owners, contents, entry-of, listed, entries, meant, None-due}
-use Rattle.timer_rows.proofs.Pending.{entries-none}
+use Rattle.timer_rows.proofs.Pending.{live-row, entries-none}
 
 module _ {P : Type 0} where
   -- a column that is read off the contents
@@ -63,9 +62,7 @@ module _ {P : Type 0} where
         owned = k .owned;
         timed = λ i n.
             let w = k .timed i n in
-            let here : i < length rows =
-                ⊎-elim (λ (h : i < length rows). h) (λ h. absurd (n (getD-past (tickets rows) i 0 (omega (arith, length-map rows (λ r. r .ticket)))))) (cases-lt i (length rows)) in
-            let ne = none i here n in
+            let ne = none i (live-row rows i n) n in
             (omega arith, w .1);
         clock = let c = k .clock in omega arith;
       }

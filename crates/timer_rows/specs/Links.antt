@@ -6,7 +6,8 @@ use Prim.Native.Nat.{ℕ, _<_, _+_}
 use lib.ListN.{length, getD}
 use Rattle.timer_rows.specs.declared.row.Row.{Row}
 use Rattle.timer_rows.specs.declared.ends.Ends.{Ends}
-use Rattle.timer_rows.specs.Rows.{nexts, prevs}
+use Rattle.timer.specs.Meaning.{Entry}
+use Rattle.timer_rows.specs.Rows.{nexts, prevs, entry-of}
 
 -- the links onward of all nodes, and those back
 abbrev pub ons : {P : Type 0} → List (Row P) → List Ends → List ℕ
@@ -34,3 +35,14 @@ pub record Linked (ns ps hs ks : List ℕ) (n m : ℕ) : Type 0 where
   pub backward : length ps ≡ n + m
   pub homes : length hs ≡ n + m
   pub keys : length ks ≡ n
+
+-- The slots of a store: `home` gives the slot of a row from what it holds, `tail` is the slots of the sentinels, and `key` is what a slot is sorted by.
+abbrev pub homes-by : {P : Type 0} → (Entry P → ℕ) → List ℕ → List (Row P) → List ℕ
+homes-by home tail rows = map (λ r. home (entry-of r)) rows ++ tail
+
+abbrev pub keys-by : {P : Type 0} → (Entry P → ℕ) → List (Row P) → List ℕ
+keys-by key rows = map (λ r. key (entry-of r)) rows
+
+abbrev pub Slots : {P : Type 0} → (Entry P → ℕ) → List ℕ → (Entry P → ℕ) → List (Row P) → List Ends → ℕ → Type 0
+Slots home tail key rows es m =
+    Linked (ons rows es) (backs rows es) (homes-by home tail rows) (keys-by key rows) (length rows) m
