@@ -5,5 +5,6 @@ pub mod Keeping
 pub mod Linking
 pub mod Same
 pub mod Moves
+pub mod Rulings
 pub mod Parts
 pub mod Props
