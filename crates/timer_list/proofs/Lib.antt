@@ -1,2 +1,4 @@
 pub mod Spots
 pub mod Lists
+pub mod Lending
+pub mod Fresh

@@ -26,10 +26,11 @@ module _ {P : Type 0} (rows : List (Row P)) (s : State) (h : Held rows s) where
   pub node-links : (q : ℕ) → getD (homes rows) q 1 ≡ 0 → (q < length rows + length (s .ends)) × (getD (ons rows (s .ends)) q 0 < length rows + length (s .ends)) × (getD (backs rows (s .ends)) q 0 < length rows + length (s .ends))
   node-links q e =
       let z : getD (homes rows) q 1 < 1 = omega (arith, e) in
-      let o = one-end rows s h in
-      ( omega (arith, node-below _ _ _ _ (length rows) 1 (h .sorted) q z)
-      , omega (arith, h .sorted .on q z .0)
-      , omega (arith, h .sorted .back q z .0))
+      let o = one-end rows s h in (
+        omega (arith, node-below _ _ _ _ (length rows) 1 (h .sorted) q z),
+        omega (arith, h .sorted .on q z .0),
+        omega (arith, h .sorted .back q z .0),
+      )
 
   -- an entry with the next ticket goes before the spot of its deadline
   module _ (x q deadline owner : ℕ) (payload : P) (xl : x < length rows) (v : getD (tickets rows) x 0 ≡ 0) (o : Open (meant rows (s .ledger)) deadline owner) (spot : Spot rows (s .ends) deadline q) where

@@ -91,13 +91,13 @@ module _ {P : Type 0} (rows : List (Row P)) (s : State) (h : Held rows s) where
         let kq : getD (keys rows) q (top s) ≡ getD (keys rows) q 0 = getD-default (keys rows) q (top s) 0 (omega (arith, length-map rows (λ r. key (entry-of r)))) in
         ⊎-elim
         (λ (m : getD (ons rows (s .ends)) q 0 < length rows).
-          let xl : x < length rows = omega (arith, is) in
-          let kx : getD (keys rows) x (top s) ≡ getD (keys rows) x 0 = getD-default (keys rows) x (top s) 0 (omega (arith, length-map rows (λ r. key (entry-of r)))) in
-          let u = h .sorted .up q l z m in
-          let j = ap (λ i. getD (keys rows) i 0) is in
-          let b = key-below x xl (ap (λ i. getD (homes rows) i 1) is ∙ o .1 ∙ e) in
-          omega arith)
+        let xl : x < length rows = omega (arith, is) in
+        let kx : getD (keys rows) x (top s) ≡ getD (keys rows) x 0 = getD-default (keys rows) x (top s) 0 (omega (arith, length-map rows (λ r. key (entry-of r)))) in
+        let u = h .sorted .up q l z m in
+        let j = ap (λ i. getD (keys rows) i 0) is in
+        let b = key-below x xl (ap (λ i. getD (homes rows) i 1) is ∙ o .1 ∙ e) in
+        omega arith)
         (λ (m : length rows ≤ getD (ons rows (s .ends)) q 0).
-          let kx : getD (keys rows) x (top s) ≡ top s = getD-past (keys rows) x (top s) (omega (arith, is, length-map rows (λ r. key (entry-of r)))) in
-          omega arith)
+        let kx : getD (keys rows) x (top s) ≡ top s = getD-past (keys rows) x (top s) (omega (arith, is, length-map rows (λ r. key (entry-of r)))) in
+        omega arith)
         (cases-lt (getD (ons rows (s .ends)) q 0) (length rows))

@@ -1,2 +1,5 @@
+mod lent;
+pub mod list;
 mod sorted;
 pub mod state;
+pub mod store;

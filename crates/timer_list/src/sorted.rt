@@ -4,7 +4,7 @@ ghost use Prim.Native.Nat.{ℕ, _+_, _<_, _≤_};
 ghost use lib.ListN.{length, getD, set};
 ghost use Rattle.std.specs.Options.{Cases};
 ghost use Rattle.std.specs.declared.option.Option.the-variants.{None};
-ghost use Rattle.timer.specs.Rules.{start-rule, stop-rule, take-rule, advance-rule, check-rule, entered, with-pending, without};
+ghost use Rattle.timer.specs.Rules.{due-rule, start-rule, stop-rule, take-rule, advance-rule, check-rule, entered, with-pending, without};
 ghost use Rattle.timer_rows.specs.Rows.{tickets, entries, meant, None-due, Foremost};
 ghost use Rattle.timer_list.specs.Sorted.{Sorted, Held, Spot};
 use crate::state::State;
@@ -37,7 +37,13 @@ pub(crate) fn spot<P: Copy>(rows: &[Row<P>], at: &State, deadline: u32) -> u16
 }
 
 // Adds an entry that check does not refuse, and answers its ticket.
-pub(crate) fn insert<P: Copy>(rows: &mut [Row<P>], at: &mut State, deadline: u32, owner: u8, payload: P) -> u32
+pub(crate) fn insert<P: Copy>(
+    rows: &mut [Row<P>],
+    at: &mut State,
+    deadline: u32,
+    owner: u8,
+    payload: P,
+) -> u32
     requires held { ⌜ Held (now rows) (now at) ⌝ }
     requires allowed { ⌜ check-rule (meant (now rows) (now at .ledger)) deadline owner ≡ None ⌝ }
     ensures ticket { λ r. ⌜ r ≡ now (at .entry) .ledger .given + 1 ⌝ }
@@ -73,11 +79,32 @@ pub(crate) fn first_due<P: Copy>(rows: &[Row<P>], at: &State) -> Option<usize>
     if x >= rows.len() {
         return None;
     }
-    if rows[x].deadline == at.ledger.now { Some(x) } else { None }
+    if rows[x].deadline == at.ledger.now {
+        Some(x)
+    } else {
+        None
+    }
+}
+
+// Whether an entry is due.
+pub(crate) fn due<P: Copy>(rows: &[Row<P>], at: &State) -> bool
+    requires { ⌜ Held (now rows) (now at) ⌝ }
+    ensures { λ r. ⌜ r ≡ due-rule (meant (now (rows .entry)) (now (at .entry) .ledger)) ⌝ }
+{
+    match first_due(rows, at) {
+        Some(_) => true,
+        None => false,
+    }
 }
 
 // `start` of the store.
-pub(crate) fn start<P: Copy>(rows: &mut [Row<P>], at: &mut State, deadline: u32, owner: u8, payload: P) -> Result<u32, TimerFault>
+pub(crate) fn start<P: Copy>(
+    rows: &mut [Row<P>],
+    at: &mut State,
+    deadline: u32,
+    owner: u8,
+    payload: P,
+) -> Result<u32, TimerFault>
     requires { ⌜ Held (now rows) (now at) ⌝ }
     ensures answer { λ r. ⌜ r ≡ start-rule (meant (now (rows .entry)) (now (at .entry) .ledger)) deadline owner payload .answer ⌝ }
     ensures after { λ _. ⌜ meant (now (rows .exit)) (now (at .exit) .ledger) ≡ start-rule (meant (now (rows .entry)) (now (at .entry) .ledger)) deadline owner payload .after ⌝ }
@@ -90,7 +117,11 @@ pub(crate) fn start<P: Copy>(rows: &mut [Row<P>], at: &mut State, deadline: u32,
 }
 
 // `stop` of the store.
-pub(crate) fn stop<P: Copy>(rows: &mut [Row<P>], at: &mut State, ticket: u32) -> Result<(u8, P), TimerFault>
+pub(crate) fn stop<P: Copy>(
+    rows: &mut [Row<P>],
+    at: &mut State,
+    ticket: u32,
+) -> Result<(u8, P), TimerFault>
     requires { ⌜ Held (now rows) (now at) ⌝ }
     ensures answer { λ r. ⌜ r ≡ stop-rule (meant (now (rows .entry)) (now (at .entry) .ledger)) ticket .answer ⌝ }
     ensures after { λ _. ⌜ meant (now (rows .exit)) (now (at .exit) .ledger) ≡ stop-rule (meant (now (rows .entry)) (now (at .entry) .ledger)) ticket .after ⌝ }
@@ -128,11 +159,11 @@ pub(crate) fn take<P: Copy>(rows: &mut [Row<P>], at: &mut State) -> Option<Expir
 }
 
 // `advance` of the store.
-pub(crate) fn advance<P: Copy>(rows: &[Row<P>], at: &mut State) -> Result<(), TimerFault>
+pub(crate) fn advance<P: Copy>(rows: &mut [Row<P>], at: &mut State) -> Result<(), TimerFault>
     requires { ⌜ Held (now rows) (now at) ⌝ }
     ensures answer { λ r. ⌜ r ≡ advance-rule (meant (now (rows .entry)) (now (at .entry) .ledger)) .answer ⌝ }
-    ensures after { λ _. ⌜ meant (now (rows .entry)) (now (at .exit) .ledger) ≡ advance-rule (meant (now (rows .entry)) (now (at .entry) .ledger)) .after ⌝ }
-    ensures held { λ _. ⌜ Held (now (rows .entry)) (now (at .exit)) ⌝ }
+    ensures after { λ _. ⌜ meant (now (rows .exit)) (now (at .exit) .ledger) ≡ advance-rule (meant (now (rows .entry)) (now (at .entry) .ledger)) .after ⌝ }
+    ensures held { λ _. ⌜ Held (now (rows .exit)) (now (at .exit)) ⌝ }
 {
     match first_due(rows, at) {
         Some(_) => Err(TimerFault::Due),

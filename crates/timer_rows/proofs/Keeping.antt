@@ -68,13 +68,13 @@ module _ {P : Type 0} (rows : List (Row P)) (l : Ledger) (k : Kept rows l) (x : 
           apart = λ i j n e.
               ⊎-elim
               (λ p. ⊎-elim
-                (λ q. p .0 ∙ sym (q .0))
-                (λ q. absurd (omega (arith, p .1, q .1, k .issued j)))
-                (column-cases (λ r. r .ticket) rows x r j xl))
+              (λ q. p .0 ∙ sym (q .0))
+              (λ q. absurd (omega (arith, p .1, q .1, k .issued j)))
+              (column-cases (λ r. r .ticket) rows x r j xl))
               (λ p. ⊎-elim
-                (λ q. absurd (omega (arith, p .1, q .1, k .issued i)))
-                (λ q. k .apart i j (λ z. n (p .1 ∙ z)) (sym (p .1) ∙ e ∙ q .1))
-                (column-cases (λ r. r .ticket) rows x r j xl))
+              (λ q. absurd (omega (arith, p .1, q .1, k .issued i)))
+              (λ q. k .apart i j (λ z. n (p .1 ∙ z)) (sym (p .1) ∙ e ∙ q .1))
+              (column-cases (λ r. r .ticket) rows x r j xl))
               (column-cases (λ r. r .ticket) rows x r i xl);
           issued = λ i.
               ⊎-elim
@@ -89,17 +89,17 @@ module _ {P : Type 0} (rows : List (Row P)) (l : Ledger) (k : Kept rows l) (x : 
               ⊎-elim
               (λ p. omega (arith, p .1, o .known))
               (λ p. ⊎-elim
-                (λ q. absurd (p .0 (q .0)))
-                (λ q. omega (arith, p .1, k .owned i (λ z. n (q .1 ∙ z))))
-                (column-cases (λ r. r .ticket) rows x r i xl))
+              (λ q. absurd (p .0 (q .0)))
+              (λ q. omega (arith, p .1, k .owned i (λ z. n (q .1 ∙ z))))
+              (column-cases (λ r. r .ticket) rows x r i xl))
               (column-cases (λ r. r .owner) rows x r i xl);
           timed = λ i n.
               ⊎-elim
               (λ p. (omega (arith, p .1, o .later), omega (arith, p .1, o .within)))
               (λ p. ⊎-elim
-                (λ q. absurd (p .0 (q .0)))
-                (λ q. let w = k .timed i (λ z. n (q .1 ∙ z)) in (omega (arith, p .1), omega (arith, p .1)))
-                (column-cases (λ r. r .ticket) rows x r i xl))
+              (λ q. absurd (p .0 (q .0)))
+              (λ q. let w = k .timed i (λ z. n (q .1 ∙ z)) in (omega (arith, p .1), omega (arith, p .1)))
+              (column-cases (λ r. r .ticket) rows x r i xl))
               (column-cases (λ r. r .deadline) rows x r i xl);
           clock = k .clock;
         }
@@ -137,9 +137,9 @@ module _ {P : Type 0} (rows : List (Row P)) (l : Ledger) (k : Kept rows l) (x : 
               ⊎-elim
               (λ p. absurd (n (p .1 ∙ t)))
               (λ p. ⊎-elim
-                (λ q. absurd (n (e ∙ q .1 ∙ t)))
-                (λ q. k .apart i j (λ z. n (p .1 ∙ z)) (sym (p .1) ∙ e ∙ q .1))
-                (column-cases (λ r. r .ticket) rows x r j xl))
+              (λ q. absurd (n (e ∙ q .1 ∙ t)))
+              (λ q. k .apart i j (λ z. n (p .1 ∙ z)) (sym (p .1) ∙ e ∙ q .1))
+              (column-cases (λ r. r .ticket) rows x r j xl))
               (column-cases (λ r. r .ticket) rows x r i xl);
           issued = λ i.
               ⊎-elim

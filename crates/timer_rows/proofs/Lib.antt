@@ -8,3 +8,4 @@ pub mod Moves
 pub mod Rulings
 pub mod Parts
 pub mod Props
+pub mod Sounds

@@ -16,24 +16,26 @@ leads-out ns ps hs n m x p q on ep eq xp xq hp hq qn qx lx lp lq y w =
     ⊎-elim
     (λ hx. absurd (omega (arith, hx .1)))
     (λ hy.
-      let yh : getD hs y m < m = omega (arith, hy .1) in
-      let a = on y yh in
-      let hq' : getD (set hs x m) q m ≡ getD hs q m = getD-set-other hs x q m m qx in
-      ⊎-elim
-      (λ yp.
-        rw (yp .1)
-          (qn
-          , hq' ∙ hq ∙ sym hp ∙ ap (λ k. getD hs k m) (sym (yp .0)) ∙ sym (hy .1)
-          , getD-set-same ps q p 0 lq ∙ sym (yp .0)))
-      (λ yp.
-        let z = getD ns y 0 in
-        let zx : getD ns y 0 ≢ x = λ e. yp .0 (sym (a .2) ∙ ap (λ k. getD ps k 0) e ∙ ep) in
-        let zq : getD ns y 0 ≢ q = λ e. hy .0 (sym (a .2) ∙ ap (λ k. getD ps k 0) e ∙ xq) in
-        rw (yp .1)
-          (a .0
-          , getD-set-other hs x (getD ns y 0) m m zx ∙ a .1 ∙ sym (hy .1)
-          , getD-set-other ps q (getD ns y 0) p 0 zq ∙ a .2))
-      (set-cases ns p q 0 y lp))
+    let yh : getD hs y m < m = omega (arith, hy .1) in
+    let a = on y yh in
+    let hq' : getD (set hs x m) q m ≡ getD hs q m = getD-set-other hs x q m m qx in
+    ⊎-elim
+    (λ yp.
+    rw (yp .1) (
+      qn,
+      hq' ∙ hq ∙ sym hp ∙ ap (λ k. getD hs k m) (sym (yp .0)) ∙ sym (hy .1),
+      getD-set-same ps q p 0 lq ∙ sym (yp .0),
+    ))
+    (λ yp.
+    let z = getD ns y 0 in
+    let zx : getD ns y 0 ≢ x = λ e. yp .0 (sym (a .2) ∙ ap (λ k. getD ps k 0) e ∙ ep) in
+    let zq : getD ns y 0 ≢ q = λ e. hy .0 (sym (a .2) ∙ ap (λ k. getD ps k 0) e ∙ xq) in
+    rw (yp .1) (
+      a .0,
+      getD-set-other hs x (getD ns y 0) m m zx ∙ a .1 ∙ sym (hy .1),
+      getD-set-other ps q (getD ns y 0) p 0 zq ∙ a .2,
+    ))
+    (set-cases ns p q 0 y lp))
     (set-cases hs x m m y lx)
 
 -- x, which is in no slot, is put between p and q
@@ -47,26 +49,28 @@ leads-in ns ps hs n m x p q s on ep eq hp hq sm free qn xn lx nx px lp lq y w =
     let psq : getD (set (set ps q x) x p) q 0 ≡ x = getD-set-other (set ps q x) x q p 0 qx ∙ getD-set-same ps q x 0 lq in
     ⊎-elim
     (λ yx.
-      let e : getD (set (set ns p x) x q) y 0 ≡ q = ap (λ k. getD (set (set ns p x) x q) k 0) (yx .0) ∙ getD-set-same (set ns p x) x q 0 nx' in
-      rw e (qn, hq' ∙ hq ∙ sym (yx .1), psq ∙ sym (yx .0)))
+    let e : getD (set (set ns p x) x q) y 0 ≡ q = ap (λ k. getD (set (set ns p x) x q) k 0) (yx .0) ∙ getD-set-same (set ns p x) x q 0 nx' in
+    rw e (qn, hq' ∙ hq ∙ sym (yx .1), psq ∙ sym (yx .0)))
     (λ yx.
-      let yh : getD hs y m < m = omega (arith, yx .1) in
-      let a = on y yh in
-      let b : getD (set (set ns p x) x q) y 0 ≡ getD (set ns p x) y 0 = getD-set-other (set ns p x) x y q 0 (yx .0) in
-      ⊎-elim
-      (λ yp.
-        rw (b ∙ yp .1)
-          (xn
-          , getD-set-same hs x s m lx ∙ sym hp ∙ ap (λ k. getD hs k m) (sym (yp .0)) ∙ sym (yx .1)
-          , getD-set-same (set ps q x) x p 0 psx ∙ sym (yp .0)))
-      (λ yp.
-        let zx : getD ns y 0 ≢ x = λ e. omega (arith, a .1, ap (λ k. getD hs k m) e) in
-        let zq : getD ns y 0 ≢ q = λ e. yp .0 (sym (a .2) ∙ ap (λ k. getD ps k 0) e ∙ ep) in
-        rw (b ∙ yp .1)
-          (a .0
-          , getD-set-other hs x (getD ns y 0) s m zx ∙ a .1 ∙ sym (yx .1)
-          , getD-set-other (set ps q x) x (getD ns y 0) p 0 zx ∙ getD-set-other ps q (getD ns y 0) x 0 zq ∙ a .2))
-      (set-cases ns p x 0 y lp))
+    let yh : getD hs y m < m = omega (arith, yx .1) in
+    let a = on y yh in
+    let b : getD (set (set ns p x) x q) y 0 ≡ getD (set ns p x) y 0 = getD-set-other (set ns p x) x y q 0 (yx .0) in
+    ⊎-elim
+    (λ yp.
+    rw (b ∙ yp .1) (
+      xn,
+      getD-set-same hs x s m lx ∙ sym hp ∙ ap (λ k. getD hs k m) (sym (yp .0)) ∙ sym (yx .1),
+      getD-set-same (set ps q x) x p 0 psx ∙ sym (yp .0),
+    ))
+    (λ yp.
+    let zx : getD ns y 0 ≢ x = λ e. omega (arith, a .1, ap (λ k. getD hs k m) e) in
+    let zq : getD ns y 0 ≢ q = λ e. yp .0 (sym (a .2) ∙ ap (λ k. getD ps k 0) e ∙ ep) in
+    rw (b ∙ yp .1) (
+      a .0,
+      getD-set-other hs x (getD ns y 0) s m zx ∙ a .1 ∙ sym (yx .1),
+      getD-set-other (set ps q x) x (getD ns y 0) p 0 zx ∙ getD-set-other ps q (getD ns y 0) x 0 zq ∙ a .2,
+    ))
+    (set-cases ns p x 0 y lp))
     (set-cases hs x s m y lx)
 
 module _ (ns ps hs ks : List ℕ) (n m : ℕ) (k : Linked ns ps hs ks n m) where
@@ -104,18 +108,18 @@ module _ (ns ps hs ks : List ℕ) (n m : ℕ) (k : Linked ns ps hs ks n m) where
               ⊎-elim
               (λ hx. absurd (omega (arith, hx .1)))
               (λ hy.
-                let yh : getD hs y m < m = omega (arith, hy .1) in
-                ⊎-elim
-                (λ yp.
-                  let c : getD ns x 0 < n = omega (arith, yp .1) in
-                  let e : getD ns y 0 ≡ x = ap (λ i. getD ns i 0) (yp .0) ∙ b .2 in
-                  let d : getD ns y 0 < n = omega (arith, e) in
-                  let f = k .up y yn yh d in
-                  let h = k .up x xn xh c in
-                  let j = ap (λ i. getD ks i 0) e in
-                  rw (yp .1) (omega arith))
-                (λ yp. let c : getD ns y 0 < n = omega (arith, yp .1) in rw (yp .1) (k .up y yn yh c))
-                (set-cases ns p q 0 y lp))
+              let yh : getD hs y m < m = omega (arith, hy .1) in
+              ⊎-elim
+              (λ yp.
+              let c : getD ns x 0 < n = omega (arith, yp .1) in
+              let e : getD ns y 0 ≡ x = ap (λ i. getD ns i 0) (yp .0) ∙ b .2 in
+              let d : getD ns y 0 < n = omega (arith, e) in
+              let f = k .up y yn yh d in
+              let h = k .up x xn xh c in
+              let j = ap (λ i. getD ks i 0) e in
+              rw (yp .1) (omega arith))
+              (λ yp. let c : getD ns y 0 < n = omega (arith, yp .1) in rw (yp .1) (k .up y yn yh c))
+              (set-cases ns p q 0 y lp))
               (set-cases hs x m m y lx);
           sentinels = λ s l. let ne : n + s ≢ x = λ e. omega (arith, e) in getD-set-other hs x (n + s) m m ne ∙ k .sentinels s l;
           onward = length-set ns p q ∙ k .onward;
@@ -149,24 +153,24 @@ module _ (ns ps hs ks : List ℕ) (n m : ℕ) (k : Linked ns ps hs ks n m) where
           up = λ y yn w l.
               ⊎-elim
               (λ yx.
-                let e : getD (set (set ns p x) x q) y 0 ≡ q = ap (λ i. getD (set (set ns p x) x q) i 0) (yx .0) ∙ getD-set-same (set ns p x) x q 0 nx' in
-                let c : q < n = omega (arith, e) in
-                rw (e, ap (λ i. getD (set ks x v) i 0) (yx .0), getD-set-same ks x v 0 kx, getD-set-other ks x q v 0 qx) (above c))
+              let e : getD (set (set ns p x) x q) y 0 ≡ q = ap (λ i. getD (set (set ns p x) x q) i 0) (yx .0) ∙ getD-set-same (set ns p x) x q 0 nx' in
+              let c : q < n = omega (arith, e) in
+              rw (e, ap (λ i. getD (set ks x v) i 0) (yx .0), getD-set-same ks x v 0 kx, getD-set-other ks x q v 0 qx) (above c))
               (λ yx.
-                let yh : getD hs y m < m = omega (arith, yx .1) in
-                let f : getD (set (set ns p x) x q) y 0 ≡ getD (set ns p x) y 0 = getD-set-other (set ns p x) x y q 0 (yx .0) in
-                ⊎-elim
-                (λ yp.
-                  let e : getD (set (set ns p x) x q) y 0 ≡ x = f ∙ yp .1 in
-                  let c : getD ps q 0 < n = omega (arith, yp .0) in
-                  let j = below c in
-                  rw (e, getD-set-same ks x v 0 kx, getD-set-other ks x y v 0 (yx .0), ap (λ i. getD ks i 0) (yp .0)) j)
-                (λ yp.
-                  let e : getD (set (set ns p x) x q) y 0 ≡ getD ns y 0 = f ∙ yp .1 in
-                  let c : getD ns y 0 < n = omega (arith, e) in
-                  let zx : getD ns y 0 ≢ x = λ i. omega (arith, k .on y yh .1, ap (λ i. getD hs i m) i) in
-                  rw (e, getD-set-other ks x (getD ns y 0) v 0 zx, getD-set-other ks x y v 0 (yx .0)) (k .up y yn yh c))
-                (set-cases ns p x 0 y lp))
+              let yh : getD hs y m < m = omega (arith, yx .1) in
+              let f : getD (set (set ns p x) x q) y 0 ≡ getD (set ns p x) y 0 = getD-set-other (set ns p x) x y q 0 (yx .0) in
+              ⊎-elim
+              (λ yp.
+              let e : getD (set (set ns p x) x q) y 0 ≡ x = f ∙ yp .1 in
+              let c : getD ps q 0 < n = omega (arith, yp .0) in
+              let j = below c in
+              rw (e, getD-set-same ks x v 0 kx, getD-set-other ks x y v 0 (yx .0), ap (λ i. getD ks i 0) (yp .0)) j)
+              (λ yp.
+              let e : getD (set (set ns p x) x q) y 0 ≡ getD ns y 0 = f ∙ yp .1 in
+              let c : getD ns y 0 < n = omega (arith, e) in
+              let zx : getD ns y 0 ≢ x = λ i. omega (arith, k .on y yh .1, ap (λ i. getD hs i m) i) in
+              rw (e, getD-set-other ks x (getD ns y 0) v 0 zx, getD-set-other ks x y v 0 (yx .0)) (k .up y yn yh c))
+              (set-cases ns p x 0 y lp))
               (set-cases hs x s m y lx);
           sentinels = λ u l. let ne : n + u ≢ x = λ e. omega (arith, e) in getD-set-other hs x (n + u) s m ne ∙ k .sentinels u l;
           onward = length-set (set ns p x) x q ∙ length-set ns p x ∙ k .onward;
@@ -205,20 +209,20 @@ module _ (ns ps hs ks : List ℕ) (n m : ℕ) (k : Linked ns ps hs ks n m) where
       let b = k .back x xh in
       ⊎-elim
       (λ (l : getD ps x 0 < n).
-        let ph : getD hs (getD ps x 0) m < m = omega (arith, b .1) in
-        let c : getD ns (getD ps x 0) 0 < n = omega (arith, b .2) in
-        let u = k .up (getD ps x 0) l ph c in
-        let e = ap (λ i. getD ks i 0) (b .2) in
-        let r = first-by fuel s (getD ps x 0) (omega arith) l (b .1 ∙ h) sm in
-        record { row = r .row; home = r .home; least = omega (arith, r .least) })
+      let ph : getD hs (getD ps x 0) m < m = omega (arith, b .1) in
+      let c : getD ns (getD ps x 0) 0 < n = omega (arith, b .2) in
+      let u = k .up (getD ps x 0) l ph c in
+      let e = ap (λ i. getD ks i 0) (b .2) in
+      let r = first-by fuel s (getD ps x 0) (omega arith) l (b .1 ∙ h) sm in
+      record { row = r .row; home = r .home; least = omega (arith, r .least) })
       (λ (l : n ≤ getD ps x 0).
-        let v = getD ps x 0 - n in
-        let vm : getD ps x 0 - n < m = omega (arith, b .0) in
-        let pv : n + (getD ps x 0 - n) ≡ getD ps x 0 = omega arith in
-        let sv : getD ps x 0 - n ≡ s = sym (k .sentinels (getD ps x 0 - n) vm) ∙ ap (λ i. getD hs i m) pv ∙ b .1 ∙ h in
-        let p : n + s ≡ getD ps x 0 = omega (arith, sv) in
-        let e : getD ns (n + s) 0 ≡ x = ap (λ i. getD ns i 0) p ∙ b .2 in
-        record { row = omega (arith, e); home = ap (λ i. getD hs i m) e ∙ h; least = omega (arith, ap (λ i. getD ks i 0) e) })
+      let v = getD ps x 0 - n in
+      let vm : getD ps x 0 - n < m = omega (arith, b .0) in
+      let pv : n + (getD ps x 0 - n) ≡ getD ps x 0 = omega arith in
+      let sv : getD ps x 0 - n ≡ s = sym (k .sentinels (getD ps x 0 - n) vm) ∙ ap (λ i. getD hs i m) pv ∙ b .1 ∙ h in
+      let p : n + s ≡ getD ps x 0 = omega (arith, sv) in
+      let e : getD ns (n + s) 0 ≡ x = ap (λ i. getD ns i 0) p ∙ b .2 in
+      record { row = omega (arith, e); home = ap (λ i. getD hs i m) e ∙ h; least = omega (arith, ap (λ i. getD ks i 0) e) })
       (cases-lt (getD ps x 0) n)
 
   pub first : (s x : ℕ) → x < n → getD hs x m ≡ s → s < m → First s x

@@ -1,16 +1,18 @@
 -- The slots of a store after an entry has come or gone.
 use mathlib.Core.Path.{_≡_, refl, sym, ap, _∙_}
 use mathlib.Core.List.{List, [], _∷_, _++_, map}
-use Prim.Native.Nat.{ℕ, _<_, _≤_, _+_}
+use mathlib.Core.Logic.{⊎-elim}
+use Prim.Native.Nat.{ℕ, _<_, _≤_, _+_, _-_}
 use native.Mathlib.Omega.{arith}
 use lib.ListN.{length, getD, set}
-use Rattle.std.proofs.shelf.Lists.{length-map, length-set, map-set, set-append-left, getD-append-left, getD-map, getD-set-same}
+use Rattle.std.proofs.shelf.Lists.{length-map, length-set, map-set, set-append-left, getD-append-left, getD-map, getD-past, getD-set-same}
+use Rattle.std.proofs.shelf.Tests.{cases-lt}
 use Rattle.timer.specs.Meaning.{Entry}
 use Rattle.timer_rows.specs.declared.row.Row.{Row}
 use Rattle.timer_rows.specs.declared.ends.Ends.{Ends}
 use Rattle.timer_rows.specs.Links.{ons, backs, Linked, homes-by, keys-by, Slots}
 use Rattle.timer_rows.specs.Rows.{contents, entry-of, vacated}
-use Rattle.timer_rows.proofs.Columns.{column-same}
+use Rattle.timer_rows.proofs.Columns.{end-link, column-length, column-same}
 use Rattle.timer_rows.proofs.Linking.{linked-out, linked-in, linked-key, linked-at}
 use Rattle.timer_rows.proofs.Same.{same-column, same-length}
 
@@ -56,12 +58,12 @@ module _ {P : Type 0} (home : Entry P → ℕ) (tail : List ℕ) (key : Entry P 
       let hx : getD (set (homes-by home tail rows) x m) x m ≡ m = getD-set-same (homes-by home tail rows) x m m (omega (arith, k .homes)) in
       let b = linked-key _ _ _ _ (length rows) m a x (key (entry-of r)) l (omega (arith, hx)) in
       linked-at m
-        (ons-kept mid rows' es' x r d lm is refl ∙ on)
-        (backs-kept mid rows' es' x r d lm is refl ∙ back)
-        (ap (homes-by home tail) is ∙ homes-set mid x r lm ∙ ap (λ c. set c x (home (entry-of r))) (homes-same rows mid same) ∙ ap (λ v. set (homes-by home tail rows) x v) gone)
-        (ap (keys-by key) is ∙ map-set (λ r. key (entry-of r)) mid x r ∙ ap (λ c. set c x (key (entry-of r))) (same-column key rows mid same))
-        (ap length is ∙ length-set mid x r ∙ n)
-        b
+      (ons-kept mid rows' es' x r d lm is refl ∙ on)
+      (backs-kept mid rows' es' x r d lm is refl ∙ back)
+      (ap (homes-by home tail) is ∙ homes-set mid x r lm ∙ ap (λ c. set c x (home (entry-of r))) (homes-same rows mid same) ∙ ap (λ v. set (homes-by home tail rows) x v) gone)
+      (ap (keys-by key) is ∙ map-set (λ r. key (entry-of r)) mid x r ∙ ap (λ c. set c x (key (entry-of r))) (same-column key rows mid same))
+      (ap length is ∙ length-set mid x r ∙ n)
+      b
 
   -- the vacant row x takes in an entry, and is then linked before the node q
   pub slots-enter : (m : ℕ) (rows mid rows' : List (Row P)) (es es' : List Ends) (x q : ℕ) (d r : Row P) → Slots home tail key rows es m → x < length rows → m ≤ getD (homes-by home tail rows) x m → r .next ≡ getD rows x d .next → r .prev ≡ getD rows x d .prev → getD (homes-by home tail rows) q m ≡ home (entry-of r) → home (entry-of r) < m → (getD (backs rows es) q 0 < length rows → getD (keys-by key rows) (getD (backs rows es) q 0) 0 < key (entry-of r)) → (q < length rows → key (entry-of r) < getD (keys-by key rows) q 0) → mid ≡ set rows x r → contents rows' ≡ contents mid → ons rows' es' ≡ set (set (ons mid es) (getD (backs mid es) q 0) x) x q → backs rows' es' ≡ set (set (backs mid es) q x) x (getD (backs mid es) q 0) → Slots home tail key rows' es' m
@@ -76,9 +78,43 @@ module _ {P : Type 0} (home : Entry P → ℕ) (tail : List ℕ) (key : Entry P 
       let n = same-length mid rows' same in
       let nm : length mid ≡ length rows = ap length is ∙ length-set rows x r in
       linked-at m
-        (on ∙ ap (λ c. set (set c (getD (backs mid es) q 0) x) x q) onm ∙ ap (λ c. set (set (ons rows es) (getD c q 0) x) x q) bkm)
-        (back ∙ ap (λ c. set (set c q x) x (getD c q 0)) bkm)
-        (homes-same mid rows' same ∙ hm')
-        (same-column key mid rows' same ∙ km)
-        (n ∙ nm)
-        a
+      (on ∙ ap (λ c. set (set c (getD (backs mid es) q 0) x) x q) onm ∙ ap (λ c. set (set (ons rows es) (getD c q 0) x) x q) bkm)
+      (back ∙ ap (λ c. set (set c q x) x (getD c q 0)) bkm)
+      (homes-same mid rows' same ∙ hm')
+      (same-column key mid rows' same ∙ km)
+      (n ∙ nm)
+      a
+
+-- a node that leads to itself
+leads-self : (ns ps hs : List ℕ) (n m y : ℕ) → y < n + m → getD ns y 0 ≡ y → getD ps y 0 ≡ y → (getD ns y 0 < n + m) × (getD hs (getD ns y 0) m ≡ getD hs y m) × (getD ps (getD ns y 0) 0 ≡ y)
+leads-self ns ps hs n m y l e f = rw e (l, refl, f)
+
+-- slots with no row in them: each sentinel leads to itself
+pub linked-none : {P : Type 0} (rows : List (Row P)) (es : List Ends) (hs ks : List ℕ) (m : ℕ) → length es ≡ m → length hs ≡ length rows + m → length ks ≡ length rows → ((i : ℕ) → i < length rows → getD hs i m ≡ m) → ((s : ℕ) → s < m → getD hs (length rows + s) m ≡ s) → ((s : ℕ) → s < m → getD es s (record { head = 0; tail = 0 }) ≡ record { head = length rows + s; tail = length rows + s }) → Linked (ons rows es) (backs rows es) hs ks (length rows) m
+linked-none {P} rows es hs ks m le lh lk vacant sentinel blank =
+    let n = length rows in
+    let on-at : (s : ℕ) → s < m → getD (ons rows es) (length rows + s) 0 ≡ length rows + s = λ s l.
+    sym (end-link (λ r. r .next) (λ e. e .head) rows es (length rows + s) (record { head = 0; tail = 0 }) (omega arith) (omega arith))
+    ∙ ap (λ i. getD es i (record { head = 0; tail = 0 }) .head) (omega arith) ∙ ap (λ (e : Ends). e .head) (blank s l) in
+    let back-at : (s : ℕ) → s < m → getD (backs rows es) (length rows + s) 0 ≡ length rows + s = λ s l.
+    sym (end-link (λ r. r .prev) (λ e. e .tail) rows es (length rows + s) (record { head = 0; tail = 0 }) (omega arith) (omega arith))
+    ∙ ap (λ i. getD es i (record { head = 0; tail = 0 }) .tail) (omega arith) ∙ ap (λ (e : Ends). e .tail) (blank s l) in
+    let past : (y : ℕ) → getD hs y m < m → (s : ℕ) × (s < m) × (length rows + s ≡ y) = λ y w.
+    ⊎-elim
+    (λ (l : y < length rows). absurd (omega (arith, vacant y l)))
+    (λ (l : length rows ≤ y).
+    ⊎-elim
+    (λ (u : y < length rows + m). (y - length rows, omega arith, omega arith))
+    (λ (u : length rows + m ≤ y). absurd (omega (arith, getD-past hs y m (omega arith))))
+    (cases-lt y (length rows + m)))
+    (cases-lt y (length rows)) in
+    record {
+      on = λ y w. let p = past y w in leads-self (ons rows es) (backs rows es) hs (length rows) m y (omega (arith, p .1, p .2)) (ap (λ i. getD (ons rows es) i 0) (sym (p .2)) ∙ on-at (p .0) (p .1) ∙ p .2) (ap (λ i. getD (backs rows es) i 0) (sym (p .2)) ∙ back-at (p .0) (p .1) ∙ p .2);
+      back = λ y w. let p = past y w in leads-self (backs rows es) (ons rows es) hs (length rows) m y (omega (arith, p .1, p .2)) (ap (λ i. getD (backs rows es) i 0) (sym (p .2)) ∙ back-at (p .0) (p .1) ∙ p .2) (ap (λ i. getD (ons rows es) i 0) (sym (p .2)) ∙ on-at (p .0) (p .1) ∙ p .2);
+      up = λ y l w. absurd (omega (arith, vacant y l));
+      sentinels = sentinel;
+      onward = column-length (λ r. r .next) (λ e. e .head) rows es ∙ ap (λ k. length rows + k) le;
+      backward = column-length (λ r. r .prev) (λ e. e .tail) rows es ∙ ap (λ k. length rows + k) le;
+      homes = lh;
+      keys = lk;
+    }

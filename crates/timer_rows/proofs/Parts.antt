@@ -1,5 +1,5 @@
 -- The rows that a store uses, lent to a function and given back.
-use mathlib.Core.Path.{_≡_, sym, ap, _∙_}
+use mathlib.Core.Path.{_≡_, sym, ap, subst, _∙_}
 use mathlib.Core.List.{List, _++_}
 use mathlib.Core.Logic.{⊎-elim}
 use Prim.Native.Nat.{ℕ, _+_, _-_, _<_, _≤_, min}
@@ -18,8 +18,8 @@ module _ {P : Type 0} (rows : List (Row P)) (n : ℕ) (is : n ≡ min (length ro
   part-used =
       ⊎-elim
       (λ (h : length rows < 4096).
-        let e : n - 0 ≡ length rows = omega arith in
-        ap (λ k. take k rows) e ∙ take-all (length rows) rows (omega arith) ∙ sym (take-all 4096 rows (omega arith)))
+      let e : n - 0 ≡ length rows = omega arith in
+      ap (λ k. take k rows) e ∙ take-all (length rows) rows (omega arith) ∙ sym (take-all 4096 rows (omega arith)))
       (λ (h : 4096 ≤ length rows). let e : n - 0 ≡ 4096 = omega arith in ap (λ k. take k rows) e)
       (cases-lt (length rows) 4096)
 
@@ -35,10 +35,14 @@ module _ {P : Type 0} (rows : List (Row P)) (n : ℕ) (is : n ≡ min (length ro
     used-after =
         ⊎-elim
         (λ (h : length rows < 4096).
-          let d : drop (n - 0) rows ≡ drop (length rows) rows = ap (λ k. drop k rows) (omega arith) in
-          ap (λ l. take 4096 (ys ++ l)) (d ∙ drop-all (length rows) rows (omega arith)) ∙ ap (take 4096) (append-nil ys) ∙ take-all 4096 ys (omega (arith, long)))
+        let d : drop (n - 0) rows ≡ drop (length rows) rows = ap (λ k. drop k rows) (omega arith) in
+        ap (λ l. take 4096 (ys ++ l)) (d ∙ drop-all (length rows) rows (omega arith)) ∙ ap (take 4096) (append-nil ys) ∙ take-all 4096 ys (omega (arith, long)))
         (λ (h : 4096 ≤ length rows). take-at ys (drop (n - 0) rows) 4096 (long ∙ omega arith))
         (cases-lt (length rows) 4096)
 
     pub unused-after : unused (ys ++ postOf 0 (n - 0) rows) ≡ unused rows
     unused-after = drop-append-drop (n - 0) rows ys 4096 (omega arith) (long ∙ omega arith)
+
+    -- what holds of the part before and after holds of the rows that are used
+    pub used-both : (Q : List (Row P) → List (Row P) → Type 0) → Q (take (n - 0) rows) ys → Q (used rows) (used (ys ++ postOf 0 (n - 0) rows))
+    used-both Q q = subst (λ z. Q (used rows) z) (sym used-after) (subst (λ z. Q z ys) part-used q)

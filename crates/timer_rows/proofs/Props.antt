@@ -1,7 +1,7 @@
 -- The facts that a store keeps can hold in one way only, so they come out of a truncation again.
 use mathlib.Core.Path.{_≡_}
 use mathlib.Core.List.{List}
-use mathlib.Core.Logic.{_≢_}
+use mathlib.Core.Logic.{_≢_, ∥∥₁-elim}
 use Prim.Native.Nat.{ℕ, _<_, _≤_, _^_, _+_}
 use lib.ListN.{length, getD}
 use denote.Struct.Props.{props}
@@ -37,6 +37,9 @@ kept-prop rows l p q =
       clock = clock (p .clock) (q .clock) i;
     }
 
+pub kept-out : {P : Type 0} (rows : List (Row P)) (l : Ledger) → ∥ Kept rows l ∥₁ → Kept rows l
+kept-out rows l t = ∥∥₁-elim t (kept-prop rows l) (λ k. k)
+
 leads-prop : (ns ps hs : List ℕ) (n m : ℕ) → IsProp (Leads ns ps hs n m)
 leads-prop ns ps hs n m = search props depth 8
 
@@ -55,3 +58,6 @@ linked-prop ns ps hs ks n m p q =
       homes = long hs (n + m) (p .homes) (q .homes) i;
       keys = long ks n (p .keys) (q .keys) i;
     }
+
+pub linked-out-of : (ns ps hs ks : List ℕ) (n m : ℕ) → ∥ Linked ns ps hs ks n m ∥₁ → Linked ns ps hs ks n m
+linked-out-of ns ps hs ks n m t = ∥∥₁-elim t (linked-prop ns ps hs ks n m) (λ k. k)

@@ -23,7 +23,12 @@ pub fn clear<P: Copy>(rows: &mut [Row<P>])
 /// The lowest refusal of a start with this deadline and owner, or `None`.
 ///
 /// An owner's limit is the number of rows, so an owner that has reached it has filled the store: that is refused first.
-pub fn check<P: Copy>(rows: &[Row<P>], ledger: &Ledger, deadline: u32, owner: u8) -> Option<TimerFault>
+pub fn check<P: Copy>(
+    rows: &[Row<P>],
+    ledger: &Ledger,
+    deadline: u32,
+    owner: u8,
+) -> Option<TimerFault>
     requires { ⌜ Kept (now rows) (now ledger) ⌝ }
     ensures { λ r. ⌜ r ≡ check-rule (meant (now (rows .entry)) (now (ledger .entry))) deadline owner ⌝ }
 {
@@ -43,7 +48,14 @@ pub fn check<P: Copy>(rows: &[Row<P>], ledger: &Ledger, deadline: u32, owner: u8
 }
 
 /// Puts an entry with the next ticket into a vacant row, and answers the ticket.
-pub fn enter<P: Copy>(rows: &mut [Row<P>], ledger: &mut Ledger, x: usize, deadline: u32, owner: u8, payload: P) -> u32
+pub fn enter<P: Copy>(
+    rows: &mut [Row<P>],
+    ledger: &mut Ledger,
+    x: usize,
+    deadline: u32,
+    owner: u8,
+    payload: P,
+) -> u32
     requires kept { ⌜ Kept (now rows) (now ledger) ⌝ }
     requires vacant { ⌜ x < length (now rows) ⌝ ∗ ⌜ getD (tickets (now rows)) x 0 ≡ 0 ⌝ }
     requires allowed { ⌜ check-rule (meant (now rows) (now ledger)) deadline owner ≡ None ⌝ }

@@ -38,7 +38,11 @@ impl Ledger {
     pub fn count(&self, owner: u8) -> usize
         ensures { λ r. ⌜ r ≡ cond (ltb owner 64) (getD (now (self .entry) .counts) owner 0) 0 ⌝ }
     {
-        if owner < 64 { self.counts[owner as usize] as usize } else { 0 }
+        if owner < 64 {
+            self.counts[owner as usize] as usize
+        } else {
+            0
+        }
     }
 
     /// Counts one more entry of the owner, and answers its ticket.

@@ -13,7 +13,11 @@ pub fn next<P: Copy>(rows: &[Row<P>], ends: &[Ends], node: u16) -> u16
     ensures { λ r. ⌜ r ≡ getD (ons (now (rows .entry)) (now (ends .entry))) node 0 ⌝ }
 {
     let i = node as usize;
-    if i < rows.len() { rows[i].next } else { ends[i - rows.len()].head }
+    if i < rows.len() {
+        rows[i].next
+    } else {
+        ends[i - rows.len()].head
+    }
 }
 
 /// The node before a node.
@@ -22,7 +26,11 @@ pub fn prev<P: Copy>(rows: &[Row<P>], ends: &[Ends], node: u16) -> u16
     ensures { λ r. ⌜ r ≡ getD (backs (now (rows .entry)) (now (ends .entry))) node 0 ⌝ }
 {
     let i = node as usize;
-    if i < rows.len() { rows[i].prev } else { ends[i - rows.len()].tail }
+    if i < rows.len() {
+        rows[i].prev
+    } else {
+        ends[i - rows.len()].tail
+    }
 }
 
 fn set_next<P: Copy>(rows: &mut [Row<P>], ends: &mut [Ends], node: u16, to: u16)

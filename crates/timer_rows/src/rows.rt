@@ -42,7 +42,11 @@ fn seek_from<P: Copy>(rows: &[Row<P>], ticket: u32, near: u32) -> Option<usize>
 pub fn row_of<P: Copy>(rows: &[Row<P>], ticket: u32) -> Option<usize>
     ensures { λ r. ⌜ Cases r (find ticket (entries (now (rows .entry))) ≡ None) (λ x. (x < length (now (rows .entry))) × (getD (tickets (now (rows .entry))) x 0 ≡ ticket) × (ticket ≢ 0)) ⌝ }
 {
-    if ticket == 0 { None } else { seek_from(rows, ticket, ticket) }
+    if ticket == 0 {
+        None
+    } else {
+        seek_from(rows, ticket, ticket)
+    }
 }
 
 /// A vacant row, near the place of the next ticket.

@@ -11,9 +11,9 @@ returns-then-x-rows g c =
 pub returns-then-rows-x : need.returns-then-rows-x
 returns-then-rows-x g c =
     list-due (c .args .rows .now) (c .args .at .now) (c .pre) _ (head-link (c .args .rows .now) (c .args .at .now) (c .pre) _) (c .if-x-rows .left)
-      (deadline-at (c .args .rows .now) _ (c .index-rows-x .result) (c .if-x-rows .left) ∙ c .if-rows-x .taken)
+    (deadline-at (c .args .rows .now) _ (c .index-rows-x .result) (c .if-x-rows .left) ∙ c .if-rows-x .taken)
 
 pub returns-else-rows-x : need.returns-else-rows-x
 returns-else-rows-x g c =
     list-later (c .args .rows .now) (c .args .at .now) (c .pre) _ (head-link (c .args .rows .now) (c .args .at .now) (c .pre) _) (c .if-x-rows .left)
-      (λ e. c .if-rows-x .left (sym (deadline-at (c .args .rows .now) _ (c .index-rows-x .result) (c .if-x-rows .left)) ∙ e))
+    (λ e. c .if-rows-x .left (sym (deadline-at (c .args .rows .now) _ (c .index-rows-x .result) (c .if-x-rows .left)) ∙ e))

@@ -25,12 +25,12 @@ pub loop-node-less : need.loop-node-less
 loop-node-less g c =
     let l : c .loop-node .node < length (c .args .rows .now) = omega arith in
     spot-falls (c .args .rows .now) (c .args .at .now) (c .pre) (c .loop-node .node) (c .args .deadline) l (c .loop-node .inv .0) _
-      (read-next (c .args .rows .now) (c .loop-node .node) (c .index-rows-node .result) (c .index-rows-node .is) l (c .args .at .now .ends))
+    (read-next (c .args .rows .now) (c .loop-node .node) (c .index-rows-node .result) (c .index-rows-node .is) l (c .args .at .now .ends))
 
 pub loop-node-again : need.loop-node-again
 loop-node-again g c =
     let l : c .loop-node .node < length (c .args .rows .now) = omega arith in
     let d = read-deadline (c .args .rows .now) (c .loop-node .node) (c .index-rows-node .result) (c .index-rows-node .is) l in
     spot-step (c .args .rows .now) (c .args .at .now) (c .pre) (c .loop-node .node) (c .args .deadline) l (c .loop-node .inv .0) _
-      (read-next (c .args .rows .now) (c .loop-node .node) (c .index-rows-node .result) (c .index-rows-node .is) l (c .args .at .now .ends))
-      (omega (arith, d))
+    (read-next (c .args .rows .now) (c .loop-node .node) (c .index-rows-node .result) (c .index-rows-node .is) l (c .args .at .now .ends))
+    (omega (arith, d))
