@@ -70,9 +70,18 @@ pub impl fmt::Display for Note as NoteDisplay {
     fn fmt<W: fmt::Write>(&self, f: &mut fmt::Formatter<W>) -> fmt::Result {
         let tick = self.tick;
         match self.effect {
-            Effect::Started(ticket, deadline, owner, payload) => write!(f, "{tick} start {ticket} {deadline} {owner} {payload}\n"),
-            Effect::Stopped(ticket, owner, payload) => write!(f, "{tick} stop {ticket} - {owner} {payload}\n"),
-            Effect::Fired(ticket, owner, payload) => write!(f, "{tick} fire {ticket} {tick} {owner} {payload}\n"),
+            Effect::Started(ticket, deadline, owner, payload) => write!(
+                f,
+                "{tick} start {ticket} {deadline} {owner} {payload}\n"
+            ),
+            Effect::Stopped(ticket, owner, payload) => write!(
+                f,
+                "{tick} stop {ticket} - {owner} {payload}\n"
+            ),
+            Effect::Fired(ticket, owner, payload) => write!(
+                f,
+                "{tick} fire {ticket} {tick} {owner} {payload}\n"
+            ),
             Effect::Idle => write!(f, "{tick} idle\n"),
             Effect::Advanced => write!(f, "{tick} advance\n"),
             Effect::Refused(call, number) => write!(f, "{tick} {call} refused {number}\n"),

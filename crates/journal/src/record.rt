@@ -4,8 +4,8 @@ ghost use Rattle.std.specs.Of.Vec.{vec-items};
 ghost use Rattle.std.specs.Vec.{made};
 ghost use Rattle.timer.specs.History.{call-after, ends};
 ghost use Rattle.journal.specs.Notes.{effect-of, note-of, notes-of, next-call, settling, of-kind, how-many};
-use crate::note::Effect;
 use crate::note::CallName;
+use crate::note::Effect;
 use crate::note::Kind;
 use crate::note::Note;
 use std::alloc::AllocError;
@@ -56,7 +56,11 @@ pub fn note<S: Store<u32>>(store: &mut S, call: Call<u32>) -> Note
 /// Makes the calls of a list, and adds a note of each.
 ///
 /// Where memory runs out the calls up to there have been made, and the last of them has no note.
-pub fn play<S: Store<u32>>(store: &mut S, calls: &[Call<u32>], notes: &mut Vec<Note>) -> Result<(), AllocError>
+pub fn play<S: Store<u32>>(
+    store: &mut S,
+    calls: &[Call<u32>],
+    notes: &mut Vec<Note>,
+) -> Result<(), AllocError>
     ensures notes { λ r. ⌜ made r (λ _. vec-items (now (notes .exit)) ≡ vec-items (now (notes .entry)) ++ notes-of (meaning (now (store .entry))) (now (calls .entry))) ⌝ }
     ensures after { λ r. ⌜ made r (λ _. meaning (now (store .exit)) ≡ ends (meaning (now (store .entry))) (now (calls .entry))) ⌝ }
 {
@@ -71,11 +75,19 @@ pub fn play<S: Store<u32>>(store: &mut S, calls: &[Call<u32>], notes: &mut Vec<N
 fn next_call<S: Store<u32>>(store: &S) -> Call<u32>
     ensures { λ r. ⌜ r ≡ next-call (meaning (now (store .entry))) ⌝ }
 {
-    if store.due() { Call::Take } else { Call::Advance }
+    if store.due() {
+        Call::Take
+    } else {
+        Call::Advance
+    }
 }
 
 /// Takes what is due and lets the tick go on until nothing is pending, in at most `budget` calls, and adds a note of each.
-pub fn settle<S: Store<u32>>(store: &mut S, budget: u32, notes: &mut Vec<Note>) -> Result<(), AllocError>
+pub fn settle<S: Store<u32>>(
+    store: &mut S,
+    budget: u32,
+    notes: &mut Vec<Note>,
+) -> Result<(), AllocError>
     ensures notes { λ r. ⌜ made r (λ _. vec-items (now (notes .exit)) ≡ vec-items (now (notes .entry)) ++ notes-of (meaning (now (store .entry))) (settling budget (meaning (now (store .entry))))) ⌝ }
     ensures after { λ r. ⌜ made r (λ _. meaning (now (store .exit)) ≡ ends (meaning (now (store .entry))) (settling budget (meaning (now (store .entry))))) ⌝ }
 {

@@ -32,6 +32,9 @@ fn run(rt: &LibcRuntime) -> Result<(), AnyError> {
     let fired = how_many(&notes, Kind::Fired);
     let refused = how_many(&notes, Kind::Refused);
     let pending = list.pending();
-    println!(rt, "{tick} end: {started} started, {stopped} stopped, {fired} fired, {refused} refused, {pending} pending")?;
+    println!(
+        rt,
+        "{tick} end: {started} started, {stopped} stopped, {fired} fired, {refused} refused, {pending} pending"
+    )?;
     Ok(())
 }

@@ -5,7 +5,7 @@ use mathlib.Core.List.{[], _∷_}
 use mathlib.Core.Logic.{_≢_, ⊎-elim}
 use Prim.Native.Nat.{ℕ, suc, _<_, _≤_}
 use native.Mathlib.Omega.{arith}
-use lib.Dec.{lit<}
+use lib.Dec.{leb, ltb, eqb, lit<}
 use lib.ListN.{length, getD}
 use Rattle.std.specs.declared.option.Option.{Option}
 use Rattle.std.specs.declared.option.Option.the-variants.{Some, None}
@@ -38,31 +38,35 @@ open-says m deadline owner h =
       allowed = grind (arith, tells);
     }
 
--- each answer of check, from what it tells
+-- each answer of check, by the tests that led to it
 module _ {P : Type 0} (m : Meaning P) (deadline owner : ℕ) where
-  pub check-past : deadline ≤ m .now → Some Past ≡ check-rule m deadline owner
+  pub check-past : leb deadline (m .now) ≡ true → Some Past ≡ check-rule m deadline owner
   unfolding check-rule
   check-past h = grind (arith, tells)
 
-  pub check-late : m .now < deadline → m .last < deadline → Some Late ≡ check-rule m deadline owner
-  unfolding check-rule
-  check-late a h = grind (arith, tells)
+  module _ (a : leb deadline (m .now) ≡ false) where
+    pub check-late : ltb (m .last) deadline ≡ true → Some Late ≡ check-rule m deadline owner
+    unfolding check-rule
+    check-late h = grind (arith, tells)
 
-  pub check-owner : m .now < deadline → deadline ≤ m .last → 64 ≤ owner → Some Owner ≡ check-rule m deadline owner
-  unfolding check-rule
-  check-owner a b h = grind (arith, tells)
+    module _ (b : ltb (m .last) deadline ≡ false) where
+      pub check-owner : 64 ≤ owner → Some Owner ≡ check-rule m deadline owner
+      unfolding check-rule
+      check-owner h = grind (arith, tells)
 
-  pub check-spent : m .now < deadline → deadline ≤ m .last → owner < 64 → m .given ≡ 4294967295 → Some Spent ≡ check-rule m deadline owner
-  unfolding check-rule
-  check-spent a b c h = grind (arith, tells)
+      module _ (c : owner < 64) where
+        pub check-spent : eqb (m .given) 4294967295 ≡ true → Some Spent ≡ check-rule m deadline owner
+        unfolding check-rule
+        check-spent h = grind (arith, tells)
 
-  pub check-full : m .now < deadline → deadline ≤ m .last → owner < 64 → m .given ≢ 4294967295 → length (m .pending) ≡ m .capacity → Some Full ≡ check-rule m deadline owner
-  unfolding check-rule
-  check-full a b c d h = grind (arith, tells)
+        module _ (d : eqb (m .given) 4294967295 ≡ false) where
+          pub check-full : length (m .pending) ≡ m .capacity → Some Full ≡ check-rule m deadline owner
+          unfolding check-rule
+          check-full h = grind (arith, tells)
 
-  pub check-open : m .now < deadline → deadline ≤ m .last → owner < 64 → m .given ≢ 4294967295 → length (m .pending) ≢ m .capacity → count owner (m .pending) < getD (m .limits) owner 0 → None ≡ check-rule m deadline owner
-  unfolding check-rule
-  check-open a b c d e h = grind (arith, tells)
+          pub check-open : length (m .pending) ≢ m .capacity → count owner (m .pending) < getD (m .limits) owner 0 → None ≡ check-rule m deadline owner
+          unfolding check-rule
+          check-open e h = grind (arith, tells)
 
 -- the refusal of a number
 fault-of : ℕ → TimerFault

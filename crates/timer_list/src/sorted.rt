@@ -28,7 +28,7 @@ pub(crate) fn spot<P: Copy>(rows: &[Row<P>], at: &State, deadline: u32) -> u16
     let mut node = at.ends[0].head;
     while (node as usize) < rows.len() {
         let row = rows[node as usize];
-        if deadline < row.deadline {
+        if row.is_after(deadline) {
             return node;
         }
         node = row.next;
@@ -79,7 +79,7 @@ pub(crate) fn first_due<P: Copy>(rows: &[Row<P>], at: &State) -> Option<usize>
     if x >= rows.len() {
         return None;
     }
-    if rows[x].deadline == at.ledger.now {
+    if rows[x].is_due(at.ledger.now) {
         Some(x)
     } else {
         None
@@ -167,12 +167,6 @@ pub(crate) fn advance<P: Copy>(rows: &mut [Row<P>], at: &mut State) -> Result<()
 {
     match first_due(rows, at) {
         Some(_) => Err(TimerFault::Due),
-        None => {
-            if at.ledger.now == at.ledger.last {
-                return Err(TimerFault::Ended);
-            }
-            at.ledger.now += 1;
-            Ok(())
-        }
+        None => at.ledger.tick(),
     }
 }

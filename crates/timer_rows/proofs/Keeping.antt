@@ -1,11 +1,11 @@
 -- What a store keeps true stays true when a row takes in an entry or gives one up.
 use mathlib.Core.Path.{_≡_, refl, sym, ap, subst, _∙_}
 use mathlib.Core.List.{List, [], _∷_, _++_, map}
-use mathlib.Core.Bool.{cond}
+use mathlib.Core.Bool.{cond, false}
 use mathlib.Core.Logic.{_≢_, _⊎_, inl, inr, ⊎-elim}
 use Prim.Native.Nat.{ℕ, zero, suc, _+_, _-_, _<_, _≤_, _^_}
 use native.Mathlib.Omega.{arith}
-use lib.Dec.{eqb}
+use lib.Dec.{leb, ltb, eqb}
 use lib.ListN.{length, getD, set, replicate}
 use Rattle.std.specs.declared.option.Option.the-variants.{Some, None}
 use Rattle.std.proofs.shelf.Lists.{getD-map, getD-replicate, getD-set-same, getD-set-other, length-map, length-push, length-replicate, length-set, map-set}
@@ -167,7 +167,7 @@ module _ {P : Type 0} (rows : List (Row P)) (l : Ledger) (k : Kept rows l) (x : 
     meant-leave = let n = length-set rows x r in rw (entries-but, n)
 
 -- where the store is not full, no owner has reached its limit
-pub check-none : {P : Type 0} (rows : List (Row P)) (l : Ledger) → Kept rows l → (deadline owner : ℕ) → l .now < deadline → deadline ≤ l .last → owner < 64 → l .given ≢ 4294967295 → l .pending ≢ length rows → None ≡ check-rule (meant rows l) deadline owner
+pub check-none : {P : Type 0} (rows : List (Row P)) (l : Ledger) → Kept rows l → (deadline owner : ℕ) → leb deadline (l .now) ≡ false → ltb (l .last) deadline ≡ false → owner < 64 → eqb (l .given) 4294967295 ≡ false → l .pending ≢ length rows → None ≡ check-rule (meant rows l) deadline owner
 check-none rows l k deadline owner a b c d e =
     let n : length (entries rows) ≢ length rows = λ q. e (k .sized ∙ q) in
     let m = entries-most rows in

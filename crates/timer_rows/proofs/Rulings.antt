@@ -11,7 +11,6 @@ use Rattle.std.specs.declared.option.Option.{Option}
 use Rattle.std.specs.declared.option.Option.the-variants.{Some, None}
 use Rattle.std.specs.declared.result.Result.{Result}
 use Rattle.std.specs.declared.result.Result.the-variants.{Ok, Err}
-use Rattle.std.proofs.shelf.Tests.{eq-eqb, ne-eqb}
 use Rattle.timer.specs.declared.expired.Expired.{Expired}
 use Rattle.timer.specs.declared.fault.TimerFault.{TimerFault}
 use Rattle.timer.specs.declared.fault.TimerFault.the-variants.{Missing, Due, Ended}
@@ -19,6 +18,7 @@ use Rattle.timer.specs.Meaning.{Entry, Meaning}
 use Rattle.timer.specs.Rules.{Outcome, Started, Stopped, Fired, find, first-due, without, with-pending, expired, refused, stopped, stop-rule, taken, take-rule, ticked, due-rule, advance-rule, started, start-rule, check-rule, entered}
 use Rattle.timer_rows.specs.declared.row.Row.{Row}
 use Rattle.timer_rows.specs.declared.ledger.Ledger.{Ledger}
+use Rattle.timer_rows.specs.Counts.{ticked-ledger}
 use Rattle.timer_rows.specs.Kept.{Kept}
 use Rattle.timer_rows.specs.Rows.{tickets, entry-of, entries, meant, None-due, Foremost}
 use Rattle.timer_rows.proofs.Pending.{entries-find, entries-due, none-due}
@@ -72,8 +72,17 @@ module _ {P : Type 0} (rows : List (Row P)) (l : Ledger) where
   pub advance-due : true ≡ due-rule (meant rows l) → advance-rule (meant rows l) ≡ refused (meant rows l) Due
   advance-due e = advance-by true (eqb (l .now) (l .last)) (sym e) refl
 
-  pub advance-ended : false ≡ due-rule (meant rows l) → l .now ≡ l .last → advance-rule (meant rows l) ≡ refused (meant rows l) Ended
-  advance-ended e q = advance-by false true (sym e) (eq-eqb (l .now) (l .last) q)
+  -- advance, where nothing was due, is what the ledger's tick does
+  pub advance-answer : None-due (l .now) rows → cond (eqb (l .now) (l .last)) (Err Ended) (Ok tt) ≡ advance-rule (meant rows l) .answer
+  advance-answer n =
+      elim (eqb (l .now) (l .last)) as (λ b. eqb (l .now) (l .last) ≡ b → cond b (Err Ended) (Ok tt) ≡ advance-rule (meant rows l) .answer) [
+        | true ↦ λ q. sym (ap (λ o. o .answer) (advance-by false true (sym (due-none n)) q))
+        | false ↦ λ q. sym (ap (λ o. o .answer) (advance-by false false (sym (due-none n)) q))
+      ] refl
 
-  pub advance-on : false ≡ due-rule (meant rows l) → l .now ≢ l .last → advance-rule (meant rows l) ≡ record { answer = Ok tt; after = ticked (meant rows l); events = [] }
-  advance-on e q = advance-by false false (sym e) (ne-eqb (l .now) (l .last) q)
+  pub advance-after : None-due (l .now) rows → meant rows (cond (eqb (l .now) (l .last)) l (ticked-ledger l)) ≡ advance-rule (meant rows l) .after
+  advance-after n =
+      elim (eqb (l .now) (l .last)) as (λ b. eqb (l .now) (l .last) ≡ b → meant rows (cond b l (ticked-ledger l)) ≡ advance-rule (meant rows l) .after) [
+        | true ↦ λ q. sym (ap (λ o. o .after) (advance-by false true (sym (due-none n)) q))
+        | false ↦ λ q. sym (ap (λ o. o .after) (advance-by false false (sym (due-none n)) q))
+      ] refl

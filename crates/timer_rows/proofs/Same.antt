@@ -1,15 +1,19 @@
 -- A store whose links changed, or whose clock went on, and nothing else.
 use mathlib.Core.Path.{_≡_, refl, sym, ap, subst, _∙_}
 use mathlib.Core.List.{List, [], _∷_, map}
-use mathlib.Core.Logic.{_≢_}
+use mathlib.Core.Bool.{cond}
+use mathlib.Core.Logic.{_≢_, ⊎-elim}
 use Prim.Native.Nat.{ℕ, _+_, _<_, _≤_, min}
 use native.Mathlib.Omega.{arith}
+use lib.Dec.{eqb}
 use lib.ListN.{length, getD, replicate}
 use Rattle.std.proofs.shelf.Lists.{length-map, length-replicate, getD-replicate}
+use Rattle.std.proofs.shelf.Tests.{cases-eq, eq-eqb, ne-eqb}
 use Rattle.timer.specs.Meaning.{Entry, Meaning}
 use Rattle.timer.specs.Rules.{count}
 use Rattle.timer_rows.specs.declared.row.Row.{Row}
 use Rattle.timer_rows.specs.declared.ledger.Ledger.{Ledger}
+use Rattle.timer_rows.specs.Counts.{ticked-ledger}
 use Rattle.timer_rows.specs.Kept.{Kept}
 use Rattle.timer_rows.specs.Rows.{tickets, deadlines, owners, contents, entry-of, listed, entries, meant, None-due}
 use Rattle.timer_rows.proofs.Pending.{live-row, entries-none}
@@ -49,7 +53,7 @@ module _ {P : Type 0} where
   same-meant a b l e = let n = same-length a b e in let s : entries b ≡ entries a = ap listed e in rw (n, s)
 
   -- one tick later, where nothing was due
-  pub tick-kept : (rows : List (Row P)) (l : Ledger) → Kept rows l → None-due (l .now) rows → l .now ≢ l .last → Kept rows (record { now = l .now + 1; last = l .last; given = l .given; pending = l .pending; counts = l .counts })
+  tick-kept : (rows : List (Row P)) (l : Ledger) → Kept rows l → None-due (l .now) rows → l .now ≢ l .last → Kept rows (ticked-ledger l)
   tick-kept rows l k none end =
       record {
         few = k .few;
@@ -66,6 +70,13 @@ module _ {P : Type 0} where
             (omega arith, w .1);
         clock = let c = k .clock in omega arith;
       }
+
+  pub kept-tick : (rows : List (Row P)) (l : Ledger) → Kept rows l → None-due (l .now) rows → Kept rows (cond (eqb (l .now) (l .last)) l (ticked-ledger l))
+  kept-tick rows l k none =
+      ⊎-elim
+      (λ (e : l .now ≡ l .last). rw (eq-eqb (l .now) (l .last) e) k)
+      (λ (e : l .now ≢ l .last). rw (ne-eqb (l .now) (l .last) e) (tick-kept rows l k none e))
+      (cases-eq (l .now) (l .last))
 
   -- vacant rows and a new ledger
   pub new-kept : (rows : List (Row P)) (first last : ℕ) → length rows ≤ 4096 → ((i : ℕ) → getD (tickets rows) i 0 ≡ 0) → Kept rows (record { now = min first last; last = last; given = 0; pending = 0; counts = replicate 64 0 })

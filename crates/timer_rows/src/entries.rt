@@ -32,13 +32,13 @@ pub fn check<P: Copy>(
     requires { ⌜ Kept (now rows) (now ledger) ⌝ }
     ensures { λ r. ⌜ r ≡ check-rule (meant (now (rows .entry)) (now (ledger .entry))) deadline owner ⌝ }
 {
-    if deadline <= ledger.now {
+    if ledger.is_past(deadline) {
         Some(TimerFault::Past)
-    } else if ledger.last < deadline {
+    } else if ledger.is_late(deadline) {
         Some(TimerFault::Late)
     } else if owner > 63 {
         Some(TimerFault::Owner)
-    } else if ledger.given == u32::MAX {
+    } else if ledger.is_spent() {
         Some(TimerFault::Spent)
     } else if ledger.pending as usize == rows.len() {
         Some(TimerFault::Full)

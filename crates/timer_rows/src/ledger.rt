@@ -1,9 +1,12 @@
 ghost use mathlib.Core.Path.{_≡_};
 ghost use mathlib.Core.Bool.{cond};
-ghost use Prim.Native.Nat.{ℕ, _+_, _^_, _<_, min};
-ghost use lib.Dec.{ltb};
+ghost use Prim.Native.Nat.{ℕ, _+_, _^_, _<_, _≤_, min};
+ghost use lib.Dec.{leb, ltb, eqb};
 ghost use lib.ListN.{getD, replicate};
-ghost use Rattle.timer_rows.specs.Counts.{raised, lowered};
+ghost use Rattle.std.specs.declared.result.Result.the-variants.{Ok, Err};
+ghost use Rattle.timer.specs.declared.fault.TimerFault.the-variants.{Ended};
+ghost use Rattle.timer_rows.specs.Counts.{raised, lowered, ticked-ledger};
+use timer::fault::TimerFault;
 
 /// What a store keeps beside its rows, whatever order it keeps them in.
 #[derive(Clone, Copy, Drop)]
@@ -32,6 +35,40 @@ impl Ledger {
             pending: 0,
             counts: [0; 64],
         }
+    }
+
+    /// Whether the deadline is not after now.
+    pub fn is_past(&self, deadline: u32) -> bool
+        ensures { λ r. ⌜ r ≡ leb deadline (now (self .entry) .now) ⌝ }
+    {
+        deadline <= self.now
+    }
+
+    /// Whether the deadline lies after the last tick.
+    pub fn is_late(&self, deadline: u32) -> bool
+        ensures { λ r. ⌜ r ≡ ltb (now (self .entry) .last) deadline ⌝ }
+    {
+        self.last < deadline
+    }
+
+    /// Whether every ticket has been given.
+    pub fn is_spent(&self) -> bool
+        ensures { λ r. ⌜ r ≡ eqb (now (self .entry) .given) 4294967295 ⌝ }
+    {
+        self.given == u32::MAX
+    }
+
+    /// Adds one to now, unless now is the last tick.
+    pub fn tick(&mut self) -> Result<(), TimerFault>
+        requires { ⌜ now self .now ≤ now self .last ⌝ }
+        ensures answer { λ r. ⌜ r ≡ cond (eqb (now (self .entry) .now) (now (self .entry) .last)) (Err Ended) (Ok tt) ⌝ }
+        ensures after { λ _. ⌜ now (self .exit) ≡ cond (eqb (now (self .entry) .now) (now (self .entry) .last)) (now (self .entry)) (ticked-ledger (now (self .entry))) ⌝ }
+    {
+        if self.now == self.last {
+            return Err(TimerFault::Ended);
+        }
+        self.now += 1;
+        Ok(())
     }
 
     /// How many entries of the owner are pending; 0 for an owner above 63.

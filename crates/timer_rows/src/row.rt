@@ -1,3 +1,6 @@
+ghost use mathlib.Core.Path.{_≡_};
+ghost use lib.Dec.{ltb, eqb};
+
 /// A place for one entry in the memory that is lent to a store; ticket 0 marks a vacant row.
 #[derive(Clone, Copy)]
 pub struct Row<P> {
@@ -17,7 +20,9 @@ pub struct Row<P> {
 
 impl<P: Copy> Row<P> {
     /// A vacant row; the payload only fills its place.
-    pub fn vacant(payload: P) -> Row<P> {
+    pub fn vacant(payload: P) -> Row<P>
+        ensures { λ r. ⌜ r ≡ record { ticket = 0; deadline = 0; next = 0; prev = 0; owner = 0; payload = payload } ⌝ }
+    {
         Row {
             ticket: 0,
             deadline: 0,
@@ -26,5 +31,19 @@ impl<P: Copy> Row<P> {
             owner: 0,
             payload,
         }
+    }
+
+    /// Whether the row's deadline comes after another one.
+    pub fn is_after(&self, deadline: u32) -> bool
+        ensures { λ r. ⌜ r ≡ ltb deadline (now (self .entry) .deadline) ⌝ }
+    {
+        deadline < self.deadline
+    }
+
+    /// Whether the row's deadline is the tick.
+    pub fn is_due(&self, tick: u32) -> bool
+        ensures { λ r. ⌜ r ≡ eqb (now (self .entry) .deadline) tick ⌝ }
+    {
+        self.deadline == tick
     }
 }

@@ -9,7 +9,7 @@ use Rattle.journal.proofs.record.play.Needs as need
 pub loop-call-again : need.loop-call-again
 loop-call-again g c =
     told-more _ _ (g .S·Store .meaning (c .loop-call .store)) _ (c .args .calls .now) (c .loop-call .call-index) (Start 0 0 0) _ _ (c .note-note .result) (c .loop-call-test .taken) (c .note-note .ensures .note) (c .note-note .ensures .after)
-      (pushed (c .note-note .result ∷ []) refl (c .in-Continue-push .was tt) (c .push .ensures .items)) (c .loop-call .inv)
+    (pushed (c .note-note .result ∷ []) refl (c .in-Continue-push .was tt) (c .push .ensures .items)) (c .loop-call .inv)
 
 pub returns : need.returns
 returns g c =

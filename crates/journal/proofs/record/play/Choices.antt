@@ -9,5 +9,5 @@ use Rattle.journal.proofs.record.play.Given as given
 abbrev pub Inv-loop-call : given.InvT-loop-call
 Inv-loop-call g l =
     Told (vec-items (l .notes)) (g .S·Store .meaning (l .store)) (drop (l .call-index) (l .calls))
-      (vec-items (l .entry .notes) ++ notes-of (g .S·Store .meaning (l .entry .store)) (l .calls))
-      (ends (g .S·Store .meaning (l .entry .store)) (l .calls))
+    (vec-items (l .entry .notes) ++ notes-of (g .S·Store .meaning (l .entry .store)) (l .calls))
+    (ends (g .S·Store .meaning (l .entry .store)) (l .calls))

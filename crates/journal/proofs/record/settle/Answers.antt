@@ -16,8 +16,8 @@ pub loop-again : need.loop-again
 loop-again g c =
     let e : c .args .budget - c .loop .counter ≡ suc (c .args .budget - (c .loop .counter + 1)) = omega arith in
     told-settling _ _ (g .S·Store .meaning (c .loop .store)) _ (c .args .budget - c .loop .counter) (c .args .budget - (c .loop .counter + 1)) (c .next-call-call .result) _ _ (c .note-note .result) e
-      (λ z. c .if-pending-eq0 .left (c .pending .ensures ∙ z)) (c .next-call-call .ensures) (c .note-note .ensures .note) (c .note-note .ensures .after)
-      (pushed (c .note-note .result ∷ []) refl (c .in-Continue-push .was tt) (c .push .ensures .items)) (c .loop .inv)
+    (λ z. c .if-pending-eq0 .left (c .pending .ensures ∙ z)) (c .next-call-call .ensures) (c .note-note .ensures .note) (c .note-note .ensures .after)
+    (pushed (c .note-note .result ∷ []) refl (c .in-Continue-push .was tt) (c .push .ensures .items)) (c .loop .inv)
 
 pub returns : need.returns
 returns g c =

@@ -9,5 +9,5 @@ use Rattle.journal.proofs.record.settle.Given as given
 abbrev pub Inv-loop : given.InvT-loop
 Inv-loop g l =
     Told (vec-items (l .notes)) (g .S·Store .meaning (l .store)) (settling (l .budget - l .counter) (g .S·Store .meaning (l .store)))
-      (vec-items (l .entry .notes) ++ notes-of (g .S·Store .meaning (l .entry .store)) (settling (l .budget) (g .S·Store .meaning (l .entry .store))))
-      (ends (g .S·Store .meaning (l .entry .store)) (settling (l .budget) (g .S·Store .meaning (l .entry .store))))
+    (vec-items (l .entry .notes) ++ notes-of (g .S·Store .meaning (l .entry .store)) (settling (l .budget) (g .S·Store .meaning (l .entry .store))))
+    (ends (g .S·Store .meaning (l .entry .store)) (settling (l .budget) (g .S·Store .meaning (l .entry .store))))
