@@ -1,5 +1,5 @@
 -- What a journal says of the calls that were made.
-use mathlib.Core.List.{List, [], _∷_}
+use mathlib.Core.List.{List, [], _∷_, _++_}
 use mathlib.Core.Bool.{Bool, cond}
 use Prim.Native.Nat.{ℕ, zero, suc, _+_}
 use lib.Dec.{eqb}
@@ -62,6 +62,10 @@ abbrev pub settling : ℕ → Meaning ℕ → List (Call ℕ)
 settling zero m = []
 settling (suc budget) m =
     cond (eqb (length (m .pending)) 0) [] (next-call m ∷ settling budget (call-after m (next-call m)))
+
+-- a task: a list of calls, and then those that settle the store
+abbrev pub told : Meaning ℕ → List (Call ℕ) → ℕ → List Note
+told m cs budget = notes-of m cs ++ notes-of (ends m cs) (settling budget (ends m cs))
 
 -- the kinds by number, 0 for an effect that is not counted
 abbrev pub kind-number : Kind → ℕ

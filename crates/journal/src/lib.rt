@@ -1,2 +1,3 @@
+pub mod compare;
 pub mod note;
 pub mod record;

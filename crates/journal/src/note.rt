@@ -3,7 +3,7 @@ ghost use Rattle.journal.specs.Text.{name-text, effect-text, note-text};
 use std::fmt;
 
 /// The calls of a store that can be refused.
-#[derive(Clone, Copy, Drop)]
+#[derive(Clone, Copy, PartialEq, Eq, Drop)]
 pub enum CallName {
     /// `start`.
     Start,
@@ -14,7 +14,7 @@ pub enum CallName {
 }
 
 /// What a call of a store came to.
-#[derive(Clone, Copy, Drop)]
+#[derive(Clone, Copy, PartialEq, Eq, Drop)]
 pub enum Effect {
     /// A timer was started: its ticket, deadline, owner and payload.
     Started(u32, u32, u8, u32),
@@ -44,7 +44,7 @@ pub enum Kind {
 }
 
 /// One line of a journal.
-#[derive(Clone, Copy, Drop)]
+#[derive(Clone, Copy, PartialEq, Eq, Drop)]
 pub struct Note {
     /// The store's tick after the call.
     pub tick: u32,

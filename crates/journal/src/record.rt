@@ -1,14 +1,17 @@
 ghost use mathlib.Core.Path.{_≡_};
+ghost use mathlib.Core.Bool.{true};
 ghost use mathlib.Core.List.{_++_};
 ghost use Rattle.std.specs.Of.Vec.{vec-items};
 ghost use Rattle.std.specs.Vec.{made};
 ghost use Rattle.timer.specs.History.{call-after, ends};
-ghost use Rattle.journal.specs.Notes.{effect-of, note-of, notes-of, next-call, settling, of-kind, how-many};
+ghost use Rattle.journal.specs.Notes.{effect-of, note-of, notes-of, next-call, settling, told, of-kind, how-many};
+use crate::compare::agree;
 use crate::note::CallName;
 use crate::note::Effect;
 use crate::note::Kind;
 use crate::note::Note;
 use std::alloc::AllocError;
+use std::alloc::Global;
 use timer::call::Call;
 use timer::store::Store;
 
@@ -100,6 +103,36 @@ pub fn settle<S: Store<u32>>(
         notes.push(note)?;
     }
     Ok(())
+}
+
+/// The notes of a task on a store: its calls, and then what follows until nothing is pending, in at most `budget` calls.
+pub fn tell<S: Store<u32>>(
+    store: &mut S,
+    calls: &[Call<u32>],
+    budget: u32,
+    heap: Global,
+) -> Result<Vec<Note>, AllocError>
+    ensures { λ r. ⌜ made r (λ v. vec-items v ≡ told (meaning (now (store .entry))) (now (calls .entry)) budget) ⌝ }
+{
+    let mut notes = Vec::new(heap);
+    play(store, calls, &mut notes)?;
+    settle(store, budget, &mut notes)?;
+    Ok(notes)
+}
+
+/// Whether a task on two stores has the same notes; it has if the stores mean the same.
+pub fn tell_alike<S: Store<u32>, T: Store<u32>>(
+    one: &mut S,
+    other: &mut T,
+    calls: &[Call<u32>],
+    budget: u32,
+    heap: Global,
+) -> Result<bool, AllocError>
+    ensures { λ r. ⌜ made r (λ same. S·Store .meaning (now (one .entry)) ≡ T·Store .meaning (now (other .entry)) → same ≡ true) ⌝ }
+{
+    let notes = tell(one, calls, budget, heap)?;
+    let others = tell(other, calls, budget, heap)?;
+    Ok(agree(&notes, &others))
 }
 
 /// How many of the notes tell of an effect of the kind.

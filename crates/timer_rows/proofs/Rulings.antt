@@ -11,6 +11,7 @@ use Rattle.std.specs.declared.option.Option.{Option}
 use Rattle.std.specs.declared.option.Option.the-variants.{Some, None}
 use Rattle.std.specs.declared.result.Result.{Result}
 use Rattle.std.specs.declared.result.Result.the-variants.{Ok, Err}
+use Rattle.std.proofs.shelf.Tests.{eq-eqb, ne-eqb}
 use Rattle.timer.specs.declared.expired.Expired.{Expired}
 use Rattle.timer.specs.declared.fault.TimerFault.{TimerFault}
 use Rattle.timer.specs.declared.fault.TimerFault.the-variants.{Missing, Due, Ended}
@@ -71,6 +72,12 @@ module _ {P : Type 0} (rows : List (Row P)) (l : Ledger) where
 
   pub advance-due : true ≡ due-rule (meant rows l) → advance-rule (meant rows l) ≡ refused (meant rows l) Due
   advance-due e = advance-by true (eqb (l .now) (l .last)) (sym e) refl
+
+  pub advance-ended : false ≡ due-rule (meant rows l) → l .now ≡ l .last → advance-rule (meant rows l) ≡ refused (meant rows l) Ended
+  advance-ended e q = advance-by false true (sym e) (eq-eqb (l .now) (l .last) q)
+
+  pub advance-on : false ≡ due-rule (meant rows l) → l .now ≢ l .last → advance-rule (meant rows l) ≡ record { answer = Ok tt; after = ticked (meant rows l); events = [] }
+  advance-on e q = advance-by false false (sym e) (ne-eqb (l .now) (l .last) q)
 
   -- advance, where nothing was due, is what the ledger's tick does
   pub advance-answer : None-due (l .now) rows → cond (eqb (l .now) (l .last)) (Err Ended) (Ok tt) ≡ advance-rule (meant rows l) .answer

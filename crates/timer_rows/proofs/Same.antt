@@ -53,7 +53,7 @@ module _ {P : Type 0} where
   same-meant a b l e = let n = same-length a b e in let s : entries b ≡ entries a = ap listed e in rw (n, s)
 
   -- one tick later, where nothing was due
-  tick-kept : (rows : List (Row P)) (l : Ledger) → Kept rows l → None-due (l .now) rows → l .now ≢ l .last → Kept rows (ticked-ledger l)
+  pub tick-kept : (rows : List (Row P)) (l : Ledger) → Kept rows l → None-due (l .now) rows → l .now ≢ l .last → Kept rows (ticked-ledger l)
   tick-kept rows l k none end =
       record {
         few = k .few;

@@ -1,0 +1,5 @@
+pub mod heap;
+mod lent;
+mod ordered;
+mod sift;
+pub mod store;

@@ -1,0 +1,5 @@
+pub mod Place
+pub mod Placed
+pub mod Pouring
+pub mod Wheels
+pub mod Sounds
