@@ -13,11 +13,12 @@ abbrev pub alike : ℕ → ℕ → ℕ → Bool
 alike j a b = eqb (a / 64 ^ j) (b / 64 ^ j)
 
 -- an entry lies on the level of the highest digit in which its deadline differs from the tick, and on level 0 where none does:
--- at tick 0 the deadline 100, in digits 1 36, lies on level 1, and at tick 64, in digits 1 0, on level 0
+-- the deadline 100, in digits 1 36, lies on level 1 at tick 0, and on level 0 at tick 64, in digits 1 0;
+-- the deadline 64 lies on level 1 at tick 63, and the deadline 4096 on level 2 at tick 4095
 abbrev pub level : ℕ → ℕ → ℕ
 level tick deadline = cond (alike 1 tick deadline) 0 (cond (alike 2 tick deadline) 1 (cond (alike 3 tick deadline) 2 3))
 
--- and in the slot of that digit of its deadline: the deadline 100 in slot 1 at tick 0, and in slot 36 at tick 64
+-- and in the slot of that digit of its deadline: of these in slots 1, 36, 1 and 1
 abbrev pub slot : ℕ → ℕ → ℕ
 slot tick deadline = digit (level tick deadline) deadline
 
@@ -29,7 +30,7 @@ place tick deadline = 64 * level tick deadline + slot tick deadline
 abbrev pub lift : ℕ → ℕ
 lift t = cond (eqb (t % 64) 0) (cond (eqb (t % 4096) 0) (cond (eqb (t % 262144) 0) 3 2) 1) 0
 
--- the slot of t's own digit on that level, which is emptied as the tick becomes t
+-- the slot of t's own digit on that level, which is emptied as the tick becomes t: all slots of the lower levels are empty then
 abbrev pub source : ℕ → ℕ
 source t = 64 * lift t + digit (lift t) t
 
@@ -43,6 +44,7 @@ lift-of t = lift t
 unfoldable pub source-of : ℕ → ℕ
 source-of t = source t
 
+-- the examples above
 abbrev pub Examples : Type 0
 Examples =
     ((level 0 100 ≡ 1) × (slot 0 100 ≡ 1))

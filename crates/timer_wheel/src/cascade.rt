@@ -30,7 +30,7 @@ fn pour<P: Copy>(rows: &mut [Row<P>], ends: &mut [Ends], tick: u32, slot: u8)
     }
 }
 
-// Moves the entries whose places change as the tick ends: those of one slot, if its turn comes, and no others.
+// Moves the entries whose places change as the tick ends: those of one slot, where the next tick has one to empty, and no others.
 pub(crate) fn cascade<P: Copy>(rows: &mut [Row<P>], ends: &mut [Ends], tick: u32)
     requires waiting { ⌜ Waiting tick (now rows) ⌝ }
     requires slots { ⌜ Slotted tick (now rows) (now ends) ⌝ }

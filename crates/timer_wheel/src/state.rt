@@ -5,6 +5,9 @@ use timer_rows::ends::Ends;
 use timer_rows::ledger::Ledger;
 use timer_rows::links::unlink_all;
 
+// The last tick: four digits of 63.
+const LAST: u32 = 16_777_215;
+
 /// What a wheel keeps beside its rows.
 #[derive(Clone, Copy, Drop)]
 pub struct State {
@@ -13,9 +16,6 @@ pub struct State {
     /// The sentinel of each slot, level by level.
     pub(crate) ends: [Ends; 256],
 }
-
-// The last tick: four digits of 63.
-const LAST: u32 = 16_777_215;
 
 impl State {
     // A wheel over this many rows, at tick 0 and with every slot empty.
