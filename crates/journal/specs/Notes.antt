@@ -67,6 +67,10 @@ settling (suc budget) m =
 abbrev pub told : Meaning ℕ → List (Call ℕ) → ℕ → List Note
 told m cs budget = notes-of m cs ++ notes-of (ends m cs) (settling budget (ends m cs))
 
+-- and where it leads
+abbrev pub settled : Meaning ℕ → List (Call ℕ) → ℕ → Meaning ℕ
+settled m cs budget = ends (ends m cs) (settling budget (ends m cs))
+
 -- the kinds by number, 0 for an effect that is not counted
 abbrev pub kind-number : Kind → ℕ
 kind-number kind.Started = 1

@@ -2,9 +2,10 @@ ghost use mathlib.Core.Path.{_≡_};
 ghost use mathlib.Core.Bool.{true};
 ghost use mathlib.Core.List.{_++_};
 ghost use Rattle.std.specs.Of.Vec.{vec-items};
+ghost use Rattle.std.specs.Orderings.{Decides};
 ghost use Rattle.std.specs.Vec.{made};
 ghost use Rattle.timer.specs.History.{call-after, ends};
-ghost use Rattle.journal.specs.Notes.{effect-of, note-of, notes-of, next-call, settling, told, of-kind, how-many};
+ghost use Rattle.journal.specs.Notes.{effect-of, note-of, notes-of, next-call, settling, settled, told, of-kind, how-many};
 use crate::compare::agree;
 use crate::note::CallName;
 use crate::note::Effect;
@@ -66,6 +67,8 @@ pub fn play<S: Store<u32>>(
 ) -> Result<(), AllocError>
     ensures notes { λ r. ⌜ made r (λ _. vec-items (now (notes .exit)) ≡ vec-items (now (notes .entry)) ++ notes-of (meaning (now (store .entry))) (now (calls .entry))) ⌝ }
     ensures after { λ r. ⌜ made r (λ _. meaning (now (store .exit)) ≡ ends (meaning (now (store .entry))) (now (calls .entry))) ⌝ }
+    ensures lenders { λ _. ⌜ S·Store .lenders (now (store .exit)) ≡ S·Store .lenders (now (store .entry)) ⌝ }
+    ensures beyond { λ _. ⌜ S·Store .beyond (now (store .exit)) ≡ S·Store .beyond (now (store .entry)) ⌝ }
 {
     for call in calls {
         let note = note(store, *call);
@@ -93,6 +96,8 @@ pub fn settle<S: Store<u32>>(
 ) -> Result<(), AllocError>
     ensures notes { λ r. ⌜ made r (λ _. vec-items (now (notes .exit)) ≡ vec-items (now (notes .entry)) ++ notes-of (meaning (now (store .entry))) (settling budget (meaning (now (store .entry))))) ⌝ }
     ensures after { λ r. ⌜ made r (λ _. meaning (now (store .exit)) ≡ ends (meaning (now (store .entry))) (settling budget (meaning (now (store .entry))))) ⌝ }
+    ensures lenders { λ _. ⌜ S·Store .lenders (now (store .exit)) ≡ S·Store .lenders (now (store .entry)) ⌝ }
+    ensures beyond { λ _. ⌜ S·Store .beyond (now (store .exit)) ≡ S·Store .beyond (now (store .entry)) ⌝ }
 {
     for _ in 0..budget {
         if store.pending() == 0 {
@@ -112,7 +117,10 @@ pub fn tell<S: Store<u32>>(
     budget: u32,
     heap: Global,
 ) -> Result<Vec<Note>, AllocError>
-    ensures { λ r. ⌜ made r (λ v. vec-items v ≡ told (meaning (now (store .entry))) (now (calls .entry)) budget) ⌝ }
+    ensures notes { λ r. ⌜ made r (λ v. vec-items v ≡ told (meaning (now (store .entry))) (now (calls .entry)) budget) ⌝ }
+    ensures after { λ r. ⌜ made r (λ _. meaning (now (store .exit)) ≡ settled (meaning (now (store .entry))) (now (calls .entry)) budget) ⌝ }
+    ensures lenders { λ _. ⌜ S·Store .lenders (now (store .exit)) ≡ S·Store .lenders (now (store .entry)) ⌝ }
+    ensures beyond { λ _. ⌜ S·Store .beyond (now (store .exit)) ≡ S·Store .beyond (now (store .entry)) ⌝ }
 {
     let mut notes = Vec::new(heap);
     play(store, calls, &mut notes)?;
@@ -120,7 +128,7 @@ pub fn tell<S: Store<u32>>(
     Ok(notes)
 }
 
-/// Whether a task on two stores has the same notes; it has if the stores mean the same.
+/// Whether a task on two stores has the same notes, as it has if the stores mean the same.
 pub fn tell_alike<S: Store<u32>, T: Store<u32>>(
     one: &mut S,
     other: &mut T,
@@ -128,7 +136,8 @@ pub fn tell_alike<S: Store<u32>, T: Store<u32>>(
     budget: u32,
     heap: Global,
 ) -> Result<bool, AllocError>
-    ensures { λ r. ⌜ made r (λ same. S·Store .meaning (now (one .entry)) ≡ T·Store .meaning (now (other .entry)) → same ≡ true) ⌝ }
+    ensures same { λ r. ⌜ made r (λ same. Decides same (told (S·Store .meaning (now (one .entry))) (now (calls .entry)) budget ≡ told (T·Store .meaning (now (other .entry))) (now (calls .entry)) budget)) ⌝ }
+    ensures alike { λ r. ⌜ made r (λ same. S·Store .meaning (now (one .entry)) ≡ T·Store .meaning (now (other .entry)) → same ≡ true) ⌝ }
 {
     let notes = tell(one, calls, budget, heap)?;
     let others = tell(other, calls, budget, heap)?;
