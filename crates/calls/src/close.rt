@@ -22,10 +22,10 @@ pub fn close<W: Store<Packet>, R: Store<Attempt>, K: Store<u8>>(
     channel: u32,
 ) -> Result<Action, RigFault>
     requires fact_1 { length records.old ≡ 64 }
-    ensures answer { let s : State = state_of rig.now fates.now (W.Store.meaning wire.now) (R.Store.meaning resend.old) (K.Store.meaning keepalive.old) records.old in result ≡ (close_body s channel).answer }
-    ensures after { let s : State = state_of rig.now fates.now (W.Store.meaning wire.now) (R.Store.meaning resend.old) (K.Store.meaning keepalive.old) records.old in state_of rig.now fates.now (W.Store.meaning wire.now) (R.Store.meaning resend.new) (K.Store.meaning keepalive.new) records.new ≡ (close_body s channel).after }
-    ensures resend { (R.Store.lenders resend.new ≡ R.Store.lenders resend.old) × (R.Store.beyond resend.new ≡ R.Store.beyond resend.old) }
-    ensures keepalive { (K.Store.lenders keepalive.new ≡ K.Store.lenders keepalive.old) × (K.Store.beyond keepalive.new ≡ K.Store.beyond keepalive.old) }
+    ensures answer { let s : State = state_of rig.now fates.now (W.meaning wire.now) (R.meaning resend.old) (K.meaning keepalive.old) records.old in result ≡ (close_body s channel).answer }
+    ensures after { let s : State = state_of rig.now fates.now (W.meaning wire.now) (R.meaning resend.old) (K.meaning keepalive.old) records.old in state_of rig.now fates.now (W.meaning wire.now) (R.meaning resend.new) (K.meaning keepalive.new) records.new ≡ (close_body s channel).after }
+    ensures resend { (R.lenders resend.new ≡ R.lenders resend.old) × (R.beyond resend.new ≡ R.beyond resend.old) }
+    ensures keepalive { (K.lenders keepalive.new ≡ K.lenders keepalive.old) × (K.beyond keepalive.new ≡ K.beyond keepalive.old) }
 {
     if channel > 63 {
         return Err(RigFault::Channel);

@@ -22,9 +22,9 @@ pub fn open<W: Store<Packet>, R: Store<Attempt>, K: Store<u8>>(
     channel: u32,
 ) -> Result<Action, RigFault>
     requires fact_1 { length records.old ≡ 64 }
-    ensures answer { let s : State = state_of rig.now fates.now (W.Store.meaning wire.now) (R.Store.meaning resend.now) (K.Store.meaning keepalive.old) records.old in result ≡ (open_body s channel).answer }
-    ensures after { let s : State = state_of rig.now fates.now (W.Store.meaning wire.now) (R.Store.meaning resend.now) (K.Store.meaning keepalive.old) records.old in state_of rig.now fates.now (W.Store.meaning wire.now) (R.Store.meaning resend.now) (K.Store.meaning keepalive.new) records.new ≡ (open_body s channel).after }
-    ensures keepalive { (K.Store.lenders keepalive.new ≡ K.Store.lenders keepalive.old) × (K.Store.beyond keepalive.new ≡ K.Store.beyond keepalive.old) }
+    ensures answer { let s : State = state_of rig.now fates.now (W.meaning wire.now) (R.meaning resend.now) (K.meaning keepalive.old) records.old in result ≡ (open_body s channel).answer }
+    ensures after { let s : State = state_of rig.now fates.now (W.meaning wire.now) (R.meaning resend.now) (K.meaning keepalive.old) records.old in state_of rig.now fates.now (W.meaning wire.now) (R.meaning resend.now) (K.meaning keepalive.new) records.new ≡ (open_body s channel).after }
+    ensures keepalive { (K.lenders keepalive.new ≡ K.lenders keepalive.old) × (K.beyond keepalive.new ≡ K.beyond keepalive.old) }
 {
     if channel > 63 {
         return Err(RigFault::Channel);

@@ -25,10 +25,10 @@ pub fn send<W: Store<Packet>, R: Store<Attempt>, K: Store<u8>>(
     word: u32,
 ) -> Result<Action, RigFault>
     requires fact_1 { length records.old ≡ 64 }
-    ensures answer { let s : State = state_of rig.old fates.now (W.Store.meaning wire.old) (R.Store.meaning resend.old) (K.Store.meaning keepalive.now) records.old in result ≡ (send_body s channel word).answer }
-    ensures after { let s : State = state_of rig.old fates.now (W.Store.meaning wire.old) (R.Store.meaning resend.old) (K.Store.meaning keepalive.now) records.old in state_of rig.new fates.now (W.Store.meaning wire.new) (R.Store.meaning resend.new) (K.Store.meaning keepalive.now) records.new ≡ (send_body s channel word).after }
-    ensures wire { (W.Store.lenders wire.new ≡ W.Store.lenders wire.old) × (W.Store.beyond wire.new ≡ W.Store.beyond wire.old) }
-    ensures resend { (R.Store.lenders resend.new ≡ R.Store.lenders resend.old) × (R.Store.beyond resend.new ≡ R.Store.beyond resend.old) }
+    ensures answer { let s : State = state_of rig.old fates.now (W.meaning wire.old) (R.meaning resend.old) (K.meaning keepalive.now) records.old in result ≡ (send_body s channel word).answer }
+    ensures after { let s : State = state_of rig.old fates.now (W.meaning wire.old) (R.meaning resend.old) (K.meaning keepalive.now) records.old in state_of rig.new fates.now (W.meaning wire.new) (R.meaning resend.new) (K.meaning keepalive.now) records.new ≡ (send_body s channel word).after }
+    ensures wire { (W.lenders wire.new ≡ W.lenders wire.old) × (W.beyond wire.new ≡ W.beyond wire.old) }
+    ensures resend { (R.lenders resend.new ≡ R.lenders resend.old) × (R.beyond resend.new ≡ R.beyond resend.old) }
 {
     if channel > 63 {
         return Err(RigFault::Channel);
@@ -69,11 +69,11 @@ fn launch<W: Store<Packet>, R: Store<Attempt>, K: Store<u8>>(
     record: Channel,
     word: u32,
 ) -> Result<Action, RigFault>
-    requires fact_1 { let s : State = state_of rig.old fates.now (W.Store.meaning wire.old) (R.Store.meaning resend.old) (K.Store.meaning keepalive.now) records.old in (length records.old ≡ 64) × (owner < 64) × («record» ≡ record_of s owner) }
-    ensures answer { let s : State = state_of rig.old fates.now (W.Store.meaning wire.old) (R.Store.meaning resend.old) (K.Store.meaning keepalive.now) records.old in result ≡ (send_start s owner word).answer }
-    ensures after { let s : State = state_of rig.old fates.now (W.Store.meaning wire.old) (R.Store.meaning resend.old) (K.Store.meaning keepalive.now) records.old in state_of rig.new fates.now (W.Store.meaning wire.new) (R.Store.meaning resend.new) (K.Store.meaning keepalive.now) records.new ≡ (send_start s owner word).after }
-    ensures wire { (W.Store.lenders wire.new ≡ W.Store.lenders wire.old) × (W.Store.beyond wire.new ≡ W.Store.beyond wire.old) }
-    ensures resend { (R.Store.lenders resend.new ≡ R.Store.lenders resend.old) × (R.Store.beyond resend.new ≡ R.Store.beyond resend.old) }
+    requires fact_1 { let s : State = state_of rig.old fates.now (W.meaning wire.old) (R.meaning resend.old) (K.meaning keepalive.now) records.old in (length records.old ≡ 64) × (owner < 64) × («record» ≡ record_of s owner) }
+    ensures answer { let s : State = state_of rig.old fates.now (W.meaning wire.old) (R.meaning resend.old) (K.meaning keepalive.now) records.old in result ≡ (send_start s owner word).answer }
+    ensures after { let s : State = state_of rig.old fates.now (W.meaning wire.old) (R.meaning resend.old) (K.meaning keepalive.now) records.old in state_of rig.new fates.now (W.meaning wire.new) (R.meaning resend.new) (K.meaning keepalive.now) records.new ≡ (send_start s owner word).after }
+    ensures wire { (W.lenders wire.new ≡ W.lenders wire.old) × (W.beyond wire.new ≡ W.beyond wire.old) }
+    ensures resend { (R.lenders resend.new ≡ R.lenders resend.old) × (R.beyond resend.new ≡ R.beyond resend.old) }
 {
     let tick = wire.now();
     let segment = Segment {

@@ -8,19 +8,19 @@ use timer::store::Store;
 
 /// Stops the timer of a ticket that a record holds.
 pub fn cancel<P, S: Store<P>>(store: &mut S, ticket: u32) -> Result<(u8, P), TimerFault>
-    ensures answer { result ≡ (stop_rule (S.Store.meaning store.old) ticket).answer }
-    ensures after { S.Store.meaning store.new ≡ (stop_rule (S.Store.meaning store.old) ticket).after }
-    ensures lenders { S.Store.lenders store.new ≡ S.Store.lenders store.old }
-    ensures beyond { S.Store.beyond store.new ≡ S.Store.beyond store.old }
+    ensures answer { result ≡ (stop_rule (S.meaning store.old) ticket).answer }
+    ensures after { S.meaning store.new ≡ (stop_rule (S.meaning store.old) ticket).after }
+    ensures lenders { S.lenders store.new ≡ S.lenders store.old }
+    ensures beyond { S.beyond store.new ≡ S.beyond store.old }
 {
     store.stop(ticket)
 }
 
 // Stops the resend timer of a place that waits.
 fn cancel_place<R: Store<Attempt>>(resend: &mut R, place: SendPlace)
-    ensures after { R.Store.meaning resend.new ≡ (place_cancelled place (R.Store.meaning resend.old)).after }
-    ensures lenders { R.Store.lenders resend.new ≡ R.Store.lenders resend.old }
-    ensures beyond { R.Store.beyond resend.new ≡ R.Store.beyond resend.old }
+    ensures after { R.meaning resend.new ≡ (place_cancelled place (R.meaning resend.old)).after }
+    ensures lenders { R.lenders resend.new ≡ R.lenders resend.old }
+    ensures beyond { R.beyond resend.new ≡ R.beyond resend.old }
 {
     if let SendPlace::Waiting(ticket) = place {
         let _ = cancel(resend, ticket);
@@ -29,9 +29,9 @@ fn cancel_place<R: Store<Attempt>>(resend: &mut R, place: SendPlace)
 
 /// Stops the resend timers of all places that wait.
 pub fn cancel_all<R: Store<Attempt>>(resend: &mut R, places: [SendPlace; 8])
-    ensures after { R.Store.meaning resend.new ≡ (all_cancelled places (R.Store.meaning resend.old)).after }
-    ensures lenders { R.Store.lenders resend.new ≡ R.Store.lenders resend.old }
-    ensures beyond { R.Store.beyond resend.new ≡ R.Store.beyond resend.old }
+    ensures after { R.meaning resend.new ≡ (all_cancelled places (R.meaning resend.old)).after }
+    ensures lenders { R.lenders resend.new ≡ R.lenders resend.old }
+    ensures beyond { R.beyond resend.new ≡ R.beyond resend.old }
 {
     for place in places {
         cancel_place(resend, place);

@@ -1,3 +1,5 @@
+#![tactic(auto)]
+
 // The workshop of `transport`: what its calls share. Some functions here have preconditions; `transport` is the interface without any.
 
 pub mod cancel;

@@ -20,11 +20,11 @@ fn carry_copy<W: Store<Packet>>(
     accepted: u8,
 ) -> u8
     requires { accepted < 255 }
-    ensures value { result ≡ counted (start_rule (W.Store.meaning wire.old) deadline owner packet).answer accepted }
+    ensures value { result ≡ counted (start_rule (W.meaning wire.old) deadline owner packet).answer accepted }
     ensures most { result ≤ accepted + 1 }
-    ensures after { W.Store.meaning wire.new ≡ (start_rule (W.Store.meaning wire.old) deadline owner packet).after }
-    ensures lenders { W.Store.lenders wire.new ≡ W.Store.lenders wire.old }
-    ensures beyond { W.Store.beyond wire.new ≡ W.Store.beyond wire.old }
+    ensures after { W.meaning wire.new ≡ (start_rule (W.meaning wire.old) deadline owner packet).after }
+    ensures lenders { W.lenders wire.new ≡ W.lenders wire.old }
+    ensures beyond { W.beyond wire.new ≡ W.beyond wire.old }
 {
     match wire.start(deadline, owner, packet) {
         Ok(_) => accepted + 1,
@@ -34,10 +34,10 @@ fn carry_copy<W: Store<Packet>>(
 
 // Starts the copies of a packet with this fate on the wire, and answers how many the wire accepted.
 fn carry<W: Store<Packet>>(wire: &mut W, fate: u16, owner: u8, packet: Packet) -> u8
-    ensures value { result ≡ (carry fate (W.Store.meaning wire.old) owner packet).copies }
-    ensures after { W.Store.meaning wire.new ≡ (carry fate (W.Store.meaning wire.old) owner packet).after }
-    ensures lenders { W.Store.lenders wire.new ≡ W.Store.lenders wire.old }
-    ensures beyond { W.Store.beyond wire.new ≡ W.Store.beyond wire.old }
+    ensures value { result ≡ (carry fate (W.meaning wire.old) owner packet).copies }
+    ensures after { W.meaning wire.new ≡ (carry fate (W.meaning wire.old) owner packet).after }
+    ensures lenders { W.lenders wire.new ≡ W.lenders wire.old }
+    ensures beyond { W.beyond wire.new ≡ W.beyond wire.old }
 {
     let deadline = wire.now().saturating_add(delay(fate) as u32);
     let mut accepted = 0;
@@ -63,11 +63,11 @@ impl Rig {
         owner: u8,
         packet: Packet,
     ) -> Transmission
-        ensures value { result ≡ record { packet = self.old.packets; delay = fate_delay (own_fate self.old fates.now); copies = (carry (own_fate self.old fates.now) (W.Store.meaning wire.old) owner packet).copies } }
-        ensures after { W.Store.meaning wire.new ≡ (carry (own_fate self.old fates.now) (W.Store.meaning wire.old) owner packet).after }
+        ensures value { result ≡ record { packet = self.old.packets; delay = fate_delay (own_fate self.old fates.now); copies = (carry (own_fate self.old fates.now) (W.meaning wire.old) owner packet).copies } }
+        ensures after { W.meaning wire.new ≡ (carry (own_fate self.old fates.now) (W.meaning wire.old) owner packet).after }
         ensures counted { self.new ≡ record { delay = self.old.delay; interval = self.old.interval; fates = self.old.fates; packets = stop (self.old.packets + 1) } }
-        ensures lenders { W.Store.lenders wire.new ≡ W.Store.lenders wire.old }
-        ensures beyond { W.Store.beyond wire.new ≡ W.Store.beyond wire.old }
+        ensures lenders { W.lenders wire.new ≡ W.lenders wire.old }
+        ensures beyond { W.beyond wire.new ≡ W.beyond wire.old }
     {
         let number = self.packets;
         let fate = self.fate(fates);

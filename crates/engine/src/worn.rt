@@ -10,7 +10,7 @@ use timer::store::Store;
 const MOST_GIVEN: u32 = u32::MAX - 2;
 
 fn worn<P, S: Store<P>>(store: &S) -> bool
-    ensures { result ≡ worn (S.Store.meaning store.now) }
+    ensures { result ≡ worn (S.meaning store.now) }
 {
     store.given() > MOST_GIVEN
 }
@@ -23,7 +23,7 @@ impl Rig {
         resend: &R,
         keepalive: &K,
     ) -> bool
-        ensures { result ≡ (worn (W.Store.meaning wire.now) || (worn (R.Store.meaning resend.now) || (worn (K.Store.meaning keepalive.now) || self.now.packets == 4294967295))) }
+        ensures { result ≡ (worn (W.meaning wire.now) || (worn (R.meaning resend.now) || (worn (K.meaning keepalive.now) || self.now.packets == 4294967295))) }
     {
         worn(wire) || worn(resend) || worn(keepalive) || self.packets == u32::MAX
     }

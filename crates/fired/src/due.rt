@@ -26,10 +26,10 @@ fn resend_open<W: Store<Packet>, R: Store<Attempt>, K: Store<u8>>(
     attempt: Attempt,
 ) -> Result<Action, RigFault>
     requires fact_1 { (length records.old ≡ 64) × (owner < 64) }
-    ensures answer { let s : State = state_of rig.old fates.now (W.Store.meaning wire.old) (R.Store.meaning resend.old) (K.Store.meaning keepalive.now) records.old in result ≡ (resend_rule s owner attempt).answer }
-    ensures after { let s : State = state_of rig.old fates.now (W.Store.meaning wire.old) (R.Store.meaning resend.old) (K.Store.meaning keepalive.now) records.old in state_of rig.new fates.now (W.Store.meaning wire.new) (R.Store.meaning resend.new) (K.Store.meaning keepalive.now) records.new ≡ (resend_rule s owner attempt).after }
-    ensures wire { (W.Store.lenders wire.new ≡ W.Store.lenders wire.old) × (W.Store.beyond wire.new ≡ W.Store.beyond wire.old) }
-    ensures resend { (R.Store.lenders resend.new ≡ R.Store.lenders resend.old) × (R.Store.beyond resend.new ≡ R.Store.beyond resend.old) }
+    ensures answer { let s : State = state_of rig.old fates.now (W.meaning wire.old) (R.meaning resend.old) (K.meaning keepalive.now) records.old in result ≡ (resend_rule s owner attempt).answer }
+    ensures after { let s : State = state_of rig.old fates.now (W.meaning wire.old) (R.meaning resend.old) (K.meaning keepalive.now) records.old in state_of rig.new fates.now (W.meaning wire.new) (R.meaning resend.new) (K.meaning keepalive.now) records.new ≡ (resend_rule s owner attempt).after }
+    ensures wire { (W.lenders wire.new ≡ W.lenders wire.old) × (W.beyond wire.new ≡ W.beyond wire.old) }
+    ensures resend { (R.lenders resend.new ≡ R.lenders resend.old) × (R.beyond resend.new ≡ R.beyond resend.old) }
 {
     let index = owner as usize;
     let record = records[index].read();
@@ -58,10 +58,10 @@ pub fn resend_due<W: Store<Packet>, R: Store<Attempt>, K: Store<u8>>(
     entry: Expired<Attempt>,
 ) -> Result<Action, RigFault>
     requires fact_1 { length records.old ≡ 64 }
-    ensures answer { let s : State = state_of rig.old fates.now (W.Store.meaning wire.old) (R.Store.meaning resend.old) (K.Store.meaning keepalive.now) records.old in result ≡ (resend-entry s entry).answer }
-    ensures after { let s : State = state_of rig.old fates.now (W.Store.meaning wire.old) (R.Store.meaning resend.old) (K.Store.meaning keepalive.now) records.old in state_of rig.new fates.now (W.Store.meaning wire.new) (R.Store.meaning resend.new) (K.Store.meaning keepalive.now) records.new ≡ (resend-entry s entry).after }
-    ensures wire { (W.Store.lenders wire.new ≡ W.Store.lenders wire.old) × (W.Store.beyond wire.new ≡ W.Store.beyond wire.old) }
-    ensures resend { (R.Store.lenders resend.new ≡ R.Store.lenders resend.old) × (R.Store.beyond resend.new ≡ R.Store.beyond resend.old) }
+    ensures answer { let s : State = state_of rig.old fates.now (W.meaning wire.old) (R.meaning resend.old) (K.meaning keepalive.now) records.old in result ≡ (resend-entry s entry).answer }
+    ensures after { let s : State = state_of rig.old fates.now (W.meaning wire.old) (R.meaning resend.old) (K.meaning keepalive.now) records.old in state_of rig.new fates.now (W.meaning wire.new) (R.meaning resend.new) (K.meaning keepalive.now) records.new ≡ (resend-entry s entry).after }
+    ensures wire { (W.lenders wire.new ≡ W.lenders wire.old) × (W.beyond wire.new ≡ W.beyond wire.old) }
+    ensures resend { (R.lenders resend.new ≡ R.lenders resend.old) × (R.beyond resend.new ≡ R.beyond resend.old) }
 {
     if live(records, entry.owner) {
         return resend_open(
@@ -93,10 +93,10 @@ fn beat_open<W: Store<Packet>, R: Store<Attempt>, K: Store<u8>>(
     owner: u8,
 ) -> Result<Action, RigFault>
     requires fact_1 { (length records.old ≡ 64) × (owner < 64) }
-    ensures answer { let s : State = state_of rig.old fates.now (W.Store.meaning wire.old) (R.Store.meaning resend.now) (K.Store.meaning keepalive.old) records.old in result ≡ (beat_rule s owner).answer }
-    ensures after { let s : State = state_of rig.old fates.now (W.Store.meaning wire.old) (R.Store.meaning resend.now) (K.Store.meaning keepalive.old) records.old in state_of rig.new fates.now (W.Store.meaning wire.new) (R.Store.meaning resend.now) (K.Store.meaning keepalive.new) records.new ≡ (beat_rule s owner).after }
-    ensures wire { (W.Store.lenders wire.new ≡ W.Store.lenders wire.old) × (W.Store.beyond wire.new ≡ W.Store.beyond wire.old) }
-    ensures keepalive { (K.Store.lenders keepalive.new ≡ K.Store.lenders keepalive.old) × (K.Store.beyond keepalive.new ≡ K.Store.beyond keepalive.old) }
+    ensures answer { let s : State = state_of rig.old fates.now (W.meaning wire.old) (R.meaning resend.now) (K.meaning keepalive.old) records.old in result ≡ (beat_rule s owner).answer }
+    ensures after { let s : State = state_of rig.old fates.now (W.meaning wire.old) (R.meaning resend.now) (K.meaning keepalive.old) records.old in state_of rig.new fates.now (W.meaning wire.new) (R.meaning resend.now) (K.meaning keepalive.new) records.new ≡ (beat_rule s owner).after }
+    ensures wire { (W.lenders wire.new ≡ W.lenders wire.old) × (W.beyond wire.new ≡ W.beyond wire.old) }
+    ensures keepalive { (K.lenders keepalive.new ≡ K.lenders keepalive.old) × (K.beyond keepalive.new ≡ K.beyond keepalive.old) }
 {
     let index = owner as usize;
     let record = records[index].read();
@@ -125,10 +125,10 @@ pub fn beat_due<W: Store<Packet>, R: Store<Attempt>, K: Store<u8>>(
     entry: Expired<u8>,
 ) -> Result<Action, RigFault>
     requires fact_1 { length records.old ≡ 64 }
-    ensures answer { let s : State = state_of rig.old fates.now (W.Store.meaning wire.old) (R.Store.meaning resend.now) (K.Store.meaning keepalive.old) records.old in result ≡ (beat-entry s entry).answer }
-    ensures after { let s : State = state_of rig.old fates.now (W.Store.meaning wire.old) (R.Store.meaning resend.now) (K.Store.meaning keepalive.old) records.old in state_of rig.new fates.now (W.Store.meaning wire.new) (R.Store.meaning resend.now) (K.Store.meaning keepalive.new) records.new ≡ (beat-entry s entry).after }
-    ensures wire { (W.Store.lenders wire.new ≡ W.Store.lenders wire.old) × (W.Store.beyond wire.new ≡ W.Store.beyond wire.old) }
-    ensures keepalive { (K.Store.lenders keepalive.new ≡ K.Store.lenders keepalive.old) × (K.Store.beyond keepalive.new ≡ K.Store.beyond keepalive.old) }
+    ensures answer { let s : State = state_of rig.old fates.now (W.meaning wire.old) (R.meaning resend.now) (K.meaning keepalive.old) records.old in result ≡ (beat-entry s entry).answer }
+    ensures after { let s : State = state_of rig.old fates.now (W.meaning wire.old) (R.meaning resend.now) (K.meaning keepalive.old) records.old in state_of rig.new fates.now (W.meaning wire.new) (R.meaning resend.now) (K.meaning keepalive.new) records.new ≡ (beat-entry s entry).after }
+    ensures wire { (W.lenders wire.new ≡ W.lenders wire.old) × (W.beyond wire.new ≡ W.beyond wire.old) }
+    ensures keepalive { (K.lenders keepalive.new ≡ K.lenders keepalive.old) × (K.beyond keepalive.new ≡ K.beyond keepalive.old) }
 {
     if live(records, entry.owner) {
         return beat_open(rig, wire, resend, keepalive, records, fates, entry.owner);

@@ -13,10 +13,10 @@ use trace::action::{Action, Segment};
 
 // Stops the resend timer of a word that was acknowledged in this tick, and answers the sample that this gives, if any.
 fn stop_attempt<R: Store<Attempt>>(resend: &mut R, ticket: u32, tick: u32) -> Option<u32>
-    ensures sample { result ≡ sample_of (stop_rule (R.Store.meaning resend.old) ticket).answer tick }
-    ensures after { R.Store.meaning resend.new ≡ (stop_rule (R.Store.meaning resend.old) ticket).after }
-    ensures lenders { R.Store.lenders resend.new ≡ R.Store.lenders resend.old }
-    ensures beyond { R.Store.beyond resend.new ≡ R.Store.beyond resend.old }
+    ensures sample { result ≡ sample_of (stop_rule (R.meaning resend.old) ticket).answer tick }
+    ensures after { R.meaning resend.new ≡ (stop_rule (R.meaning resend.old) ticket).after }
+    ensures lenders { R.lenders resend.new ≡ R.lenders resend.old }
+    ensures beyond { R.beyond resend.new ≡ R.beyond resend.old }
 {
     match cancel(resend, ticket) {
         Ok((_, attempt)) => attempt.sample(tick),
@@ -36,9 +36,9 @@ pub(crate) fn data<W: Store<Packet>, R: Store<Attempt>, K: Store<u8>>(
     segment: Segment,
 ) -> Action
     requires fact_1 { (length records.old ≡ 64) × (owner < 64) }
-    ensures answer { let s : State = state_of rig.old fates.now (W.Store.meaning wire.old) (R.Store.meaning resend.now) (K.Store.meaning keepalive.now) records.old in Ok result ≡ (data_rule s owner segment).answer }
-    ensures after { let s : State = state_of rig.old fates.now (W.Store.meaning wire.old) (R.Store.meaning resend.now) (K.Store.meaning keepalive.now) records.old in state_of rig.new fates.now (W.Store.meaning wire.new) (R.Store.meaning resend.now) (K.Store.meaning keepalive.now) records.new ≡ (data_rule s owner segment).after }
-    ensures wire { (W.Store.lenders wire.new ≡ W.Store.lenders wire.old) × (W.Store.beyond wire.new ≡ W.Store.beyond wire.old) }
+    ensures answer { let s : State = state_of rig.old fates.now (W.meaning wire.old) (R.meaning resend.now) (K.meaning keepalive.now) records.old in Ok result ≡ (data_rule s owner segment).answer }
+    ensures after { let s : State = state_of rig.old fates.now (W.meaning wire.old) (R.meaning resend.now) (K.meaning keepalive.now) records.old in state_of rig.new fates.now (W.meaning wire.new) (R.meaning resend.now) (K.meaning keepalive.now) records.new ≡ (data_rule s owner segment).after }
+    ensures wire { (W.lenders wire.new ≡ W.lenders wire.old) × (W.beyond wire.new ≡ W.beyond wire.old) }
 {
     let index = owner as usize;
     let record = records[index].read();
@@ -73,9 +73,9 @@ pub(crate) fn acknowledgement<W: Store<Packet>, R: Store<Attempt>, K: Store<u8>>
     sequence: u32,
 ) -> Action
     requires fact_1 { (length records.old ≡ 64) × (owner < 64) }
-    ensures answer { let s : State = state_of rig.now fates.now (W.Store.meaning wire.now) (R.Store.meaning resend.old) (K.Store.meaning keepalive.now) records.old in Ok result ≡ (acknowledgement_rule s owner sequence).answer }
-    ensures after { let s : State = state_of rig.now fates.now (W.Store.meaning wire.now) (R.Store.meaning resend.old) (K.Store.meaning keepalive.now) records.old in state_of rig.now fates.now (W.Store.meaning wire.now) (R.Store.meaning resend.new) (K.Store.meaning keepalive.now) records.new ≡ (acknowledgement_rule s owner sequence).after }
-    ensures resend { (R.Store.lenders resend.new ≡ R.Store.lenders resend.old) × (R.Store.beyond resend.new ≡ R.Store.beyond resend.old) }
+    ensures answer { let s : State = state_of rig.now fates.now (W.meaning wire.now) (R.meaning resend.old) (K.meaning keepalive.now) records.old in Ok result ≡ (acknowledgement_rule s owner sequence).answer }
+    ensures after { let s : State = state_of rig.now fates.now (W.meaning wire.now) (R.meaning resend.old) (K.meaning keepalive.now) records.old in state_of rig.now fates.now (W.meaning wire.now) (R.meaning resend.new) (K.meaning keepalive.now) records.new ≡ (acknowledgement_rule s owner sequence).after }
+    ensures resend { (R.lenders resend.new ≡ R.lenders resend.old) × (R.beyond resend.new ≡ R.beyond resend.old) }
 {
     let index = owner as usize;
     let record = records[index].read();

@@ -1,3 +1,5 @@
+#![tactic(auto)]
+
 pub mod compare;
 pub mod note;
 pub mod record;

@@ -10,10 +10,10 @@ use timer::store::Store;
 
 // Makes one call of a store, and says what it came to.
 fn effect<S: Store<u32>>(store: &mut S, call: Call<u32>) -> Effect
-    ensures effect { result ≡ effect_of (meaning store.old) call }
-    ensures after { meaning store.new ≡ call_after (meaning store.old) call }
-    ensures lenders { S.Store.lenders store.new ≡ S.Store.lenders store.old }
-    ensures beyond { S.Store.beyond store.new ≡ S.Store.beyond store.old }
+    ensures effect { result ≡ effect_of (S.meaning store.old) call }
+    ensures after { S.meaning store.new ≡ call_after (S.meaning store.old) call }
+    ensures lenders { S.lenders store.new ≡ S.lenders store.old }
+    ensures beyond { S.beyond store.new ≡ S.beyond store.old }
 {
     match call {
         Call::Start(deadline, owner, payload) => match store.start(deadline, owner, payload) {
@@ -37,10 +37,10 @@ fn effect<S: Store<u32>>(store: &mut S, call: Call<u32>) -> Effect
 
 /// Makes one call of a store, and notes what it came to.
 pub fn note<S: Store<u32>>(store: &mut S, call: Call<u32>) -> Note
-    ensures note { result ≡ note_of (meaning store.old) call }
-    ensures after { meaning store.new ≡ call_after (meaning store.old) call }
-    ensures lenders { S.Store.lenders store.new ≡ S.Store.lenders store.old }
-    ensures beyond { S.Store.beyond store.new ≡ S.Store.beyond store.old }
+    ensures note { result ≡ note_of (S.meaning store.old) call }
+    ensures after { S.meaning store.new ≡ call_after (S.meaning store.old) call }
+    ensures lenders { S.lenders store.new ≡ S.lenders store.old }
+    ensures beyond { S.beyond store.new ≡ S.beyond store.old }
 {
     let effect = effect(store, call);
     Note {
@@ -57,10 +57,10 @@ pub fn play<S: Store<u32>>(
     calls: &[Call<u32>],
     notes: &mut Vec<Note>,
 ) -> Result<(), AllocError>
-    ensures notes { OnOk result (notes.new.items ≡ notes.old.items ++ notes_of (meaning store.old) calls.now) }
-    ensures after { OnOk result (meaning store.new ≡ ends (meaning store.old) calls.now) }
-    ensures lenders { S.Store.lenders store.new ≡ S.Store.lenders store.old }
-    ensures beyond { S.Store.beyond store.new ≡ S.Store.beyond store.old }
+    ensures notes { OnOk result (notes.new.items ≡ notes.old.items ++ notes_of (S.meaning store.old) calls.now) }
+    ensures after { OnOk result (S.meaning store.new ≡ ends (S.meaning store.old) calls.now) }
+    ensures lenders { S.lenders store.new ≡ S.lenders store.old }
+    ensures beyond { S.beyond store.new ≡ S.beyond store.old }
 {
     for call in calls {
         let note = note(store, *call);
@@ -71,7 +71,7 @@ pub fn play<S: Store<u32>>(
 
 // What is to be done next: an entry is taken if one is due, else the tick goes on.
 fn next_call<S: Store<u32>>(store: &S) -> Call<u32>
-    ensures { result ≡ coming_call (meaning store.now) }
+    ensures { result ≡ coming_call (S.meaning store.now) }
 {
     if store.due() {
         Call::Take
@@ -86,10 +86,10 @@ pub fn settle<S: Store<u32>>(
     budget: u32,
     notes: &mut Vec<Note>,
 ) -> Result<(), AllocError>
-    ensures notes { OnOk result (notes.new.items ≡ notes.old.items ++ notes_of (meaning store.old) (settling budget (meaning store.old))) }
-    ensures after { OnOk result (meaning store.new ≡ ends (meaning store.old) (settling budget (meaning store.old))) }
-    ensures lenders { S.Store.lenders store.new ≡ S.Store.lenders store.old }
-    ensures beyond { S.Store.beyond store.new ≡ S.Store.beyond store.old }
+    ensures notes { OnOk result (notes.new.items ≡ notes.old.items ++ notes_of (S.meaning store.old) (settling budget (S.meaning store.old))) }
+    ensures after { OnOk result (S.meaning store.new ≡ ends (S.meaning store.old) (settling budget (S.meaning store.old))) }
+    ensures lenders { S.lenders store.new ≡ S.lenders store.old }
+    ensures beyond { S.beyond store.new ≡ S.beyond store.old }
 {
     for _ in 0..budget {
         if store.pending() == 0 {
@@ -109,10 +109,10 @@ pub fn tell<S: Store<u32>>(
     budget: u32,
     heap: Global,
 ) -> Result<Vec<Note>, AllocError>
-    ensures notes { IfOk result (λ v. v.items ≡ told (meaning store.old) calls.now budget) }
-    ensures after { OnOk result (meaning store.new ≡ settled (meaning store.old) calls.now budget) }
-    ensures lenders { S.Store.lenders store.new ≡ S.Store.lenders store.old }
-    ensures beyond { S.Store.beyond store.new ≡ S.Store.beyond store.old }
+    ensures notes { IfOk result (λ v. v.items ≡ told (S.meaning store.old) calls.now budget) }
+    ensures after { OnOk result (S.meaning store.new ≡ settled (S.meaning store.old) calls.now budget) }
+    ensures lenders { S.lenders store.new ≡ S.lenders store.old }
+    ensures beyond { S.beyond store.new ≡ S.beyond store.old }
 {
     let mut notes = Vec::new(heap);
     play(store, calls, &mut notes)?;
@@ -128,8 +128,8 @@ pub fn tell_alike<S: Store<u32>, T: Store<u32>>(
     budget: u32,
     heap: Global,
 ) -> Result<bool, AllocError>
-    ensures same { IfOk result (λ same. Decides same (told (S.Store.meaning one.old) calls.now budget ≡ told (T.Store.meaning other.old) calls.now budget)) }
-    ensures alike { IfOk result (λ same. S.Store.meaning one.old ≡ T.Store.meaning other.old → same ≡ true) }
+    ensures same { IfOk result (λ same. Decides same (told (S.meaning one.old) calls.now budget ≡ told (T.meaning other.old) calls.now budget)) }
+    ensures alike { IfOk result (λ same. S.meaning one.old ≡ T.meaning other.old → same ≡ true) }
 {
     let notes = tell(one, calls, budget, heap)?;
     let others = tell(other, calls, budget, heap)?;

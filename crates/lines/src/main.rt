@@ -1,3 +1,5 @@
+#![tactic(auto)]
+
 // Prints one line of each kind, and what the line writer answers at the edge of its buffer.
 use std::alloc::AllocError;
 use std::io;

@@ -1,3 +1,5 @@
+#![tactic(auto)]
+
 pub mod operation;
 
 ghost use Rattle.std.specs.Prelude.{◌≡◌};

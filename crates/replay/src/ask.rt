@@ -12,7 +12,7 @@ use transport::rig::Running;
 
 // Asks a store.
 fn ask_store<P, S: Store<P>>(store: &S, question: StoreQuestion) -> Answer
-    ensures { result ≡ store_told (S.Store.meaning store.now) question }
+    ensures { result ≡ store_told (S.meaning store.now) question }
 {
     match question {
         StoreQuestion::Now => Answer::Number(store.now() as usize),
@@ -37,7 +37,7 @@ pub(crate) fn ask<W: Store<Packet>, R: Store<Attempt>, K: Store<u8>>(
     fates: &[u16],
     question: Question,
 ) -> Answer
-    ensures { result ≡ told (state_of rig.now fates.now (W.Store.meaning wire.now) (R.Store.meaning resend.now) (K.Store.meaning keepalive.now) (take 64 table.now)) question }
+    ensures { result ≡ told (state_of rig.now fates.now (W.meaning wire.now) (R.meaning resend.now) (K.meaning keepalive.now) (take 64 table.now)) question }
 {
     match question {
         Question::Status(channel) => Answer::Number(rig.status(table, channel) as usize),

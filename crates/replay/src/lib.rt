@@ -1,3 +1,5 @@
+#![tactic(auto)]
+
 mod ask;
 mod note;
 mod operate;

@@ -22,11 +22,11 @@ pub(crate) fn note<W: Store<Packet>, R: Store<Attempt>, K: Store<u8>>(
     notes: &mut Vec<Note>,
     call: Call,
 ) -> Result<Answer, AllocError>
-    ensures cases { MatchResult result (λ a. (a ≡ call_answer (state_of rig.old fates.now (W.Store.meaning wire.old) (R.Store.meaning resend.old) (K.Store.meaning keepalive.old) (take 64 table.old)) call) × (state_of rig.new fates.now (W.Store.meaning wire.new) (R.Store.meaning resend.new) (K.Store.meaning keepalive.new) (take 64 table.new) ≡ call_after (state_of rig.old fates.now (W.Store.meaning wire.old) (R.Store.meaning resend.old) (K.Store.meaning keepalive.old) (take 64 table.old)) call) × (notes.new.items ≡ notes.old.items ++ note_of (state_of rig.old fates.now (W.Store.meaning wire.old) (R.Store.meaning resend.old) (K.Store.meaning keepalive.old) (take 64 table.old)) call ∷ [])) (λ _. (state_of rig.new fates.now (W.Store.meaning wire.new) (R.Store.meaning resend.new) (K.Store.meaning keepalive.new) (take 64 table.new) ≡ state_of rig.old fates.now (W.Store.meaning wire.old) (R.Store.meaning resend.old) (K.Store.meaning keepalive.old) (take 64 table.old)) × (notes.new.items ≡ notes.old.items)) }
+    ensures cases { MatchResult result (λ a. (a ≡ call_answer (state_of rig.old fates.now (W.meaning wire.old) (R.meaning resend.old) (K.meaning keepalive.old) (take 64 table.old)) call) × (state_of rig.new fates.now (W.meaning wire.new) (R.meaning resend.new) (K.meaning keepalive.new) (take 64 table.new) ≡ call_after (state_of rig.old fates.now (W.meaning wire.old) (R.meaning resend.old) (K.meaning keepalive.old) (take 64 table.old)) call) × (notes.new.items ≡ notes.old.items ++ note_of (state_of rig.old fates.now (W.meaning wire.old) (R.meaning resend.old) (K.meaning keepalive.old) (take 64 table.old)) call ∷ [])) (λ _. (state_of rig.new fates.now (W.meaning wire.new) (R.meaning resend.new) (K.meaning keepalive.new) (take 64 table.new) ≡ state_of rig.old fates.now (W.meaning wire.old) (R.meaning resend.old) (K.meaning keepalive.old) (take 64 table.old)) × (notes.new.items ≡ notes.old.items)) }
     ensures later { drop 64 table.new ≡ drop 64 table.old }
-    ensures wire { (W.Store.lenders wire.new ≡ W.Store.lenders wire.old) × (W.Store.beyond wire.new ≡ W.Store.beyond wire.old) }
-    ensures resend { (R.Store.lenders resend.new ≡ R.Store.lenders resend.old) × (R.Store.beyond resend.new ≡ R.Store.beyond resend.old) }
-    ensures keepalive { (K.Store.lenders keepalive.new ≡ K.Store.lenders keepalive.old) × (K.Store.beyond keepalive.new ≡ K.Store.beyond keepalive.old) }
+    ensures wire { (W.lenders wire.new ≡ W.lenders wire.old) × (W.beyond wire.new ≡ W.beyond wire.old) }
+    ensures resend { (R.lenders resend.new ≡ R.lenders resend.old) × (R.beyond resend.new ≡ R.beyond resend.old) }
+    ensures keepalive { (K.lenders keepalive.new ≡ K.lenders keepalive.old) × (K.beyond keepalive.new ≡ K.beyond keepalive.old) }
 {
     notes.reserve(1)?;
     let answer = perform(rig, wire, resend, keepalive, table, fates, call);

@@ -48,17 +48,17 @@ pub fn run_pair<
     other_fates: &[u16],
     commands: &[Command],
 ) -> Pair
-    ensures first { Outcome (begin_check draft.delay draft.interval (W.Store.meaning wire.entry.now) (R.Store.meaning resend.old) (K.Store.meaning keepalive.old) (length table.old)) draft fates.now commands.now (record { wire = W.Store.meaning wire.entry.now; resend = R.Store.meaning resend.old; keepalive = K.Store.meaning keepalive.old; table = table.old }) result.first (record { wire = W.Store.meaning wire.exit.now; resend = R.Store.meaning resend.new; keepalive = K.Store.meaning keepalive.new; table = table.new }) }
-    ensures second { Outcome (begin_check other_draft.delay other_draft.interval (X.Store.meaning other_wire.old) (S.Store.meaning other_resend.old) (L.Store.meaning other_keepalive.old) (length other_table.old)) other_draft other_fates.now commands.now (record { wire = X.Store.meaning other_wire.old; resend = S.Store.meaning other_resend.old; keepalive = L.Store.meaning other_keepalive.old; table = other_table.old }) result.second (record { wire = X.Store.meaning other_wire.new; resend = S.Store.meaning other_resend.new; keepalive = L.Store.meaning other_keepalive.new; table = other_table.new }) }
-    ensures alike { Alike draft other_draft fates.now other_fates.now (record { wire = W.Store.meaning wire.entry.now; resend = R.Store.meaning resend.old; keepalive = K.Store.meaning keepalive.old; table = table.old }) (record { wire = X.Store.meaning other_wire.old; resend = S.Store.meaning other_resend.old; keepalive = L.Store.meaning other_keepalive.old; table = other_table.old }) → Both result.first result.second }
+    ensures first { Outcome (begin_check draft.delay draft.interval (W.meaning wire.entry.now) (R.meaning resend.old) (K.meaning keepalive.old) (length table.old)) draft fates.now commands.now (record { wire = W.meaning wire.entry.now; resend = R.meaning resend.old; keepalive = K.meaning keepalive.old; table = table.old }) result.first (record { wire = W.meaning wire.exit.now; resend = R.meaning resend.new; keepalive = K.meaning keepalive.new; table = table.new }) }
+    ensures second { Outcome (begin_check other_draft.delay other_draft.interval (X.meaning other_wire.old) (S.meaning other_resend.old) (L.meaning other_keepalive.old) (length other_table.old)) other_draft other_fates.now commands.now (record { wire = X.meaning other_wire.old; resend = S.meaning other_resend.old; keepalive = L.meaning other_keepalive.old; table = other_table.old }) result.second (record { wire = X.meaning other_wire.new; resend = S.meaning other_resend.new; keepalive = L.meaning other_keepalive.new; table = other_table.new }) }
+    ensures alike { Alike draft other_draft fates.now other_fates.now (record { wire = W.meaning wire.entry.now; resend = R.meaning resend.old; keepalive = K.meaning keepalive.old; table = table.old }) (record { wire = X.meaning other_wire.old; resend = S.meaning other_resend.old; keepalive = L.meaning other_keepalive.old; table = other_table.old }) → Both result.first result.second }
     ensures later { drop 64 table.new ≡ drop 64 table.old }
-    ensures wire { (W.Store.lenders wire.new ≡ W.Store.lenders wire.old) × (W.Store.beyond wire.new ≡ W.Store.beyond wire.old) }
-    ensures resend { (R.Store.lenders resend.new ≡ R.Store.lenders resend.old) × (R.Store.beyond resend.new ≡ R.Store.beyond resend.old) }
-    ensures keepalive { (K.Store.lenders keepalive.new ≡ K.Store.lenders keepalive.old) × (K.Store.beyond keepalive.new ≡ K.Store.beyond keepalive.old) }
+    ensures wire { (W.lenders wire.new ≡ W.lenders wire.old) × (W.beyond wire.new ≡ W.beyond wire.old) }
+    ensures resend { (R.lenders resend.new ≡ R.lenders resend.old) × (R.beyond resend.new ≡ R.beyond resend.old) }
+    ensures keepalive { (K.lenders keepalive.new ≡ K.lenders keepalive.old) × (K.beyond keepalive.new ≡ K.beyond keepalive.old) }
     ensures other_later { drop 64 other_table.new ≡ drop 64 other_table.old }
-    ensures other_wire { (X.Store.lenders other_wire.new ≡ X.Store.lenders other_wire.old) × (X.Store.beyond other_wire.new ≡ X.Store.beyond other_wire.old) }
-    ensures other_resend { (S.Store.lenders other_resend.new ≡ S.Store.lenders other_resend.old) × (S.Store.beyond other_resend.new ≡ S.Store.beyond other_resend.old) }
-    ensures other_keepalive { (L.Store.lenders other_keepalive.new ≡ L.Store.lenders other_keepalive.old) × (L.Store.beyond other_keepalive.new ≡ L.Store.beyond other_keepalive.old) }
+    ensures other_wire { (X.lenders other_wire.new ≡ X.lenders other_wire.old) × (X.beyond other_wire.new ≡ X.beyond other_wire.old) }
+    ensures other_resend { (S.lenders other_resend.new ≡ S.lenders other_resend.old) × (S.beyond other_resend.new ≡ S.beyond other_resend.old) }
+    ensures other_keepalive { (L.lenders other_keepalive.new ≡ L.lenders other_keepalive.old) × (L.beyond other_keepalive.new ≡ L.beyond other_keepalive.old) }
 {
     let first = run(heap, draft, wire, resend, keepalive, table, fates, commands);
     let second = run(

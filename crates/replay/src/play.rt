@@ -26,12 +26,12 @@ fn carry_out<W: Store<Packet>, R: Store<Attempt>, K: Store<u8>>(
     notes: &mut Vec<Note>,
     command: Command,
 ) -> Result<(), AllocError>
-    requires ready { let s : State = state_of rig.old fates.now (W.Store.meaning wire.old) (R.Store.meaning resend.old) (K.Store.meaning keepalive.old) (take 64 table.old) in Ready s }
-    ensures went { let s : State = state_of rig.old fates.now (W.Store.meaning wire.old) (R.Store.meaning resend.old) (K.Store.meaning keepalive.old) (take 64 table.old) in Went s notes.old.items (unfold_one s command) (is_ok result) (state_of rig.new fates.now (W.Store.meaning wire.new) (R.Store.meaning resend.new) (K.Store.meaning keepalive.new) (take 64 table.new)) notes.new.items }
+    requires ready { let s : State = state_of rig.old fates.now (W.meaning wire.old) (R.meaning resend.old) (K.meaning keepalive.old) (take 64 table.old) in Ready s }
+    ensures went { let s : State = state_of rig.old fates.now (W.meaning wire.old) (R.meaning resend.old) (K.meaning keepalive.old) (take 64 table.old) in Went s notes.old.items (unfold_one s command) (is_ok result) (state_of rig.new fates.now (W.meaning wire.new) (R.meaning resend.new) (K.meaning keepalive.new) (take 64 table.new)) notes.new.items }
     ensures later { drop 64 table.new ≡ drop 64 table.old }
-    ensures wire { (W.Store.lenders wire.new ≡ W.Store.lenders wire.old) × (W.Store.beyond wire.new ≡ W.Store.beyond wire.old) }
-    ensures resend { (R.Store.lenders resend.new ≡ R.Store.lenders resend.old) × (R.Store.beyond resend.new ≡ R.Store.beyond resend.old) }
-    ensures keepalive { (K.Store.lenders keepalive.new ≡ K.Store.lenders keepalive.old) × (K.Store.beyond keepalive.new ≡ K.Store.beyond keepalive.old) }
+    ensures wire { (W.lenders wire.new ≡ W.lenders wire.old) × (W.beyond wire.new ≡ W.beyond wire.old) }
+    ensures resend { (R.lenders resend.new ≡ R.lenders resend.old) × (R.beyond resend.new ≡ R.beyond resend.old) }
+    ensures keepalive { (K.lenders keepalive.new ≡ K.lenders keepalive.old) × (K.beyond keepalive.new ≡ K.beyond keepalive.old) }
 {
     match command {
         Command::Call(call) => {
@@ -55,12 +55,12 @@ pub(crate) fn play<W: Store<Packet>, R: Store<Attempt>, K: Store<u8>>(
     notes: &mut Vec<Note>,
     commands: &[Command],
 ) -> Result<(), AllocError>
-    requires ready { let s : State = state_of rig.old fates.now (W.Store.meaning wire.old) (R.Store.meaning resend.old) (K.Store.meaning keepalive.old) (take 64 table.old) in Ready s }
-    ensures went { let s : State = state_of rig.old fates.now (W.Store.meaning wire.old) (R.Store.meaning resend.old) (K.Store.meaning keepalive.old) (take 64 table.old) in Went s notes.old.items (calls_of s commands.now) (is_ok result) (state_of rig.new fates.now (W.Store.meaning wire.new) (R.Store.meaning resend.new) (K.Store.meaning keepalive.new) (take 64 table.new)) notes.new.items }
+    requires ready { let s : State = state_of rig.old fates.now (W.meaning wire.old) (R.meaning resend.old) (K.meaning keepalive.old) (take 64 table.old) in Ready s }
+    ensures went { let s : State = state_of rig.old fates.now (W.meaning wire.old) (R.meaning resend.old) (K.meaning keepalive.old) (take 64 table.old) in Went s notes.old.items (calls_of s commands.now) (is_ok result) (state_of rig.new fates.now (W.meaning wire.new) (R.meaning resend.new) (K.meaning keepalive.new) (take 64 table.new)) notes.new.items }
     ensures later { drop 64 table.new ≡ drop 64 table.old }
-    ensures wire { (W.Store.lenders wire.new ≡ W.Store.lenders wire.old) × (W.Store.beyond wire.new ≡ W.Store.beyond wire.old) }
-    ensures resend { (R.Store.lenders resend.new ≡ R.Store.lenders resend.old) × (R.Store.beyond resend.new ≡ R.Store.beyond resend.old) }
-    ensures keepalive { (K.Store.lenders keepalive.new ≡ K.Store.lenders keepalive.old) × (K.Store.beyond keepalive.new ≡ K.Store.beyond keepalive.old) }
+    ensures wire { (W.lenders wire.new ≡ W.lenders wire.old) × (W.beyond wire.new ≡ W.beyond wire.old) }
+    ensures resend { (R.lenders resend.new ≡ R.lenders resend.old) × (R.beyond resend.new ≡ R.beyond resend.old) }
+    ensures keepalive { (K.lenders keepalive.new ≡ K.lenders keepalive.old) × (K.beyond keepalive.new ≡ K.beyond keepalive.old) }
 {
     for command in commands {
         carry_out(rig, wire, resend, keepalive, table, fates, notes, *command)?;

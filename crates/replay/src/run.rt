@@ -25,11 +25,11 @@ pub fn run<W: Store<Packet>, R: Store<Attempt>, K: Store<u8>>(
     fates: &[u16],
     commands: &[Command],
 ) -> Result<Session, Stopped>
-    ensures outcome { Outcome (begin_check draft.delay draft.interval (W.Store.meaning wire.entry.now) (R.Store.meaning resend.old) (K.Store.meaning keepalive.old) (length table.old)) draft fates.now commands.now (record { wire = W.Store.meaning wire.entry.now; resend = R.Store.meaning resend.old; keepalive = K.Store.meaning keepalive.old; table = table.old }) result (record { wire = W.Store.meaning wire.exit.now; resend = R.Store.meaning resend.new; keepalive = K.Store.meaning keepalive.new; table = table.new }) }
+    ensures outcome { Outcome (begin_check draft.delay draft.interval (W.meaning wire.entry.now) (R.meaning resend.old) (K.meaning keepalive.old) (length table.old)) draft fates.now commands.now (record { wire = W.meaning wire.entry.now; resend = R.meaning resend.old; keepalive = K.meaning keepalive.old; table = table.old }) result (record { wire = W.meaning wire.exit.now; resend = R.meaning resend.new; keepalive = K.meaning keepalive.new; table = table.new }) }
     ensures later { drop 64 table.new ≡ drop 64 table.old }
-    ensures wire { (W.Store.lenders wire.new ≡ W.Store.lenders wire.old) × (W.Store.beyond wire.new ≡ W.Store.beyond wire.old) }
-    ensures resend { (R.Store.lenders resend.new ≡ R.Store.lenders resend.old) × (R.Store.beyond resend.new ≡ R.Store.beyond resend.old) }
-    ensures keepalive { (K.Store.lenders keepalive.new ≡ K.Store.lenders keepalive.old) × (K.Store.beyond keepalive.new ≡ K.Store.beyond keepalive.old) }
+    ensures wire { (W.lenders wire.new ≡ W.lenders wire.old) × (W.beyond wire.new ≡ W.beyond wire.old) }
+    ensures resend { (R.lenders resend.new ≡ R.lenders resend.old) × (R.beyond resend.new ≡ R.beyond resend.old) }
+    ensures keepalive { (K.lenders keepalive.new ≡ K.lenders keepalive.old) × (K.beyond keepalive.new ≡ K.beyond keepalive.old) }
 {
     let mut rig = draft.begin(wire, resend, keepalive, table)?;
     let mut notes = Vec::new(heap);

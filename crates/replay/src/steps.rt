@@ -26,7 +26,7 @@ fn goes_on<W: Store<Packet>, R: Store<Attempt>, K: Store<u8>>(
     keepalive: &K,
     tick: u32,
 ) -> bool
-    ensures { result ≡ (nat_lt (W.Store.meaning wire.now).now tick || (due_rule (W.Store.meaning wire.now) || (due_rule (R.Store.meaning resend.now) || due_rule (K.Store.meaning keepalive.now)))) }
+    ensures { result ≡ (nat_lt (W.meaning wire.now).now tick || (due_rule (W.meaning wire.now) || (due_rule (R.meaning resend.now) || due_rule (K.meaning keepalive.now)))) }
 {
     wire.now() < tick || wire.due() || resend.due() || keepalive.due()
 }
@@ -51,11 +51,11 @@ fn step_once<W: Store<Packet>, R: Store<Attempt>, K: Store<u8>>(
     fates: &[u16],
     notes: &mut Vec<Note>,
 ) -> Result<bool, AllocError>
-    ensures cases { MatchResult result (λ ok. (ok ≡ is_ok (step_rule (state_of rig.old fates.now (W.Store.meaning wire.old) (R.Store.meaning resend.old) (K.Store.meaning keepalive.old) (take 64 table.old))).answer) × (state_of rig.new fates.now (W.Store.meaning wire.new) (R.Store.meaning resend.new) (K.Store.meaning keepalive.new) (take 64 table.new) ≡ (step_rule (state_of rig.old fates.now (W.Store.meaning wire.old) (R.Store.meaning resend.old) (K.Store.meaning keepalive.old) (take 64 table.old))).after) × (notes.new.items ≡ notes.old.items ++ note_of (state_of rig.old fates.now (W.Store.meaning wire.old) (R.Store.meaning resend.old) (K.Store.meaning keepalive.old) (take 64 table.old)) (Operate Step) ∷ [])) (λ _. (state_of rig.new fates.now (W.Store.meaning wire.new) (R.Store.meaning resend.new) (K.Store.meaning keepalive.new) (take 64 table.new) ≡ state_of rig.old fates.now (W.Store.meaning wire.old) (R.Store.meaning resend.old) (K.Store.meaning keepalive.old) (take 64 table.old)) × (notes.new.items ≡ notes.old.items)) }
+    ensures cases { MatchResult result (λ ok. (ok ≡ is_ok (step_rule (state_of rig.old fates.now (W.meaning wire.old) (R.meaning resend.old) (K.meaning keepalive.old) (take 64 table.old))).answer) × (state_of rig.new fates.now (W.meaning wire.new) (R.meaning resend.new) (K.meaning keepalive.new) (take 64 table.new) ≡ (step_rule (state_of rig.old fates.now (W.meaning wire.old) (R.meaning resend.old) (K.meaning keepalive.old) (take 64 table.old))).after) × (notes.new.items ≡ notes.old.items ++ note_of (state_of rig.old fates.now (W.meaning wire.old) (R.meaning resend.old) (K.meaning keepalive.old) (take 64 table.old)) (Operate Step) ∷ [])) (λ _. (state_of rig.new fates.now (W.meaning wire.new) (R.meaning resend.new) (K.meaning keepalive.new) (take 64 table.new) ≡ state_of rig.old fates.now (W.meaning wire.old) (R.meaning resend.old) (K.meaning keepalive.old) (take 64 table.old)) × (notes.new.items ≡ notes.old.items)) }
     ensures later { drop 64 table.new ≡ drop 64 table.old }
-    ensures wire { (W.Store.lenders wire.new ≡ W.Store.lenders wire.old) × (W.Store.beyond wire.new ≡ W.Store.beyond wire.old) }
-    ensures resend { (R.Store.lenders resend.new ≡ R.Store.lenders resend.old) × (R.Store.beyond resend.new ≡ R.Store.beyond resend.old) }
-    ensures keepalive { (K.Store.lenders keepalive.new ≡ K.Store.lenders keepalive.old) × (K.Store.beyond keepalive.new ≡ K.Store.beyond keepalive.old) }
+    ensures wire { (W.lenders wire.new ≡ W.lenders wire.old) × (W.beyond wire.new ≡ W.beyond wire.old) }
+    ensures resend { (R.lenders resend.new ≡ R.lenders resend.old) × (R.beyond resend.new ≡ R.beyond resend.old) }
+    ensures keepalive { (K.lenders keepalive.new ≡ K.lenders keepalive.old) × (K.beyond keepalive.new ≡ K.beyond keepalive.old) }
 {
     let answer = note(
         rig,
@@ -81,12 +81,12 @@ pub(crate) fn step_until<W: Store<Packet>, R: Store<Attempt>, K: Store<u8>>(
     notes: &mut Vec<Note>,
     tick: u32,
 ) -> Result<(), AllocError>
-    requires ready { let s : State = state_of rig.old fates.now (W.Store.meaning wire.old) (R.Store.meaning resend.old) (K.Store.meaning keepalive.old) (take 64 table.old) in Ready s }
-    ensures went { let s : State = state_of rig.old fates.now (W.Store.meaning wire.old) (R.Store.meaning resend.old) (K.Store.meaning keepalive.old) (take 64 table.old) in Went s notes.old.items (steps_until s tick) (is_ok result) (state_of rig.new fates.now (W.Store.meaning wire.new) (R.Store.meaning resend.new) (K.Store.meaning keepalive.new) (take 64 table.new)) notes.new.items }
+    requires ready { let s : State = state_of rig.old fates.now (W.meaning wire.old) (R.meaning resend.old) (K.meaning keepalive.old) (take 64 table.old) in Ready s }
+    ensures went { let s : State = state_of rig.old fates.now (W.meaning wire.old) (R.meaning resend.old) (K.meaning keepalive.old) (take 64 table.old) in Went s notes.old.items (steps_until s tick) (is_ok result) (state_of rig.new fates.now (W.meaning wire.new) (R.meaning resend.new) (K.meaning keepalive.new) (take 64 table.new)) notes.new.items }
     ensures later { drop 64 table.new ≡ drop 64 table.old }
-    ensures wire { (W.Store.lenders wire.new ≡ W.Store.lenders wire.old) × (W.Store.beyond wire.new ≡ W.Store.beyond wire.old) }
-    ensures resend { (R.Store.lenders resend.new ≡ R.Store.lenders resend.old) × (R.Store.beyond resend.new ≡ R.Store.beyond resend.old) }
-    ensures keepalive { (K.Store.lenders keepalive.new ≡ K.Store.lenders keepalive.old) × (K.Store.beyond keepalive.new ≡ K.Store.beyond keepalive.old) }
+    ensures wire { (W.lenders wire.new ≡ W.lenders wire.old) × (W.beyond wire.new ≡ W.beyond wire.old) }
+    ensures resend { (R.lenders resend.new ≡ R.lenders resend.old) × (R.beyond resend.new ≡ R.beyond resend.old) }
+    ensures keepalive { (K.lenders keepalive.new ≡ K.lenders keepalive.old) × (K.beyond keepalive.new ≡ K.beyond keepalive.old) }
 {
     while goes_on(wire, resend, keepalive, tick) {
         if !step_once(rig, wire, resend, keepalive, table, fates, notes)? {

@@ -1,3 +1,5 @@
+#![tactic(auto)]
+
 mod play;
 mod script;
 

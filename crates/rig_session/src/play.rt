@@ -55,7 +55,7 @@ fn beside_lists<W: Store<Packet>, R: Store<Attempt>, K: Store<u8>>(
     resend: &mut R,
     keepalive: &mut K,
 ) -> anyhow::Result<Pair>
-    ensures { IfOk result (λ p. W.Store.meaning wire.old ≡ idle 512 → R.Store.meaning resend.old ≡ idle 256 → K.Store.meaning keepalive.old ≡ idle 64 → Both p.first p.second) }
+    ensures { IfOk result (λ p. W.meaning wire.old ≡ idle 512 → R.meaning resend.old ≡ idle 256 → K.meaning keepalive.old ≡ idle 64 → Both p.first p.second) }
 {
     let mut wire_rows = [Row::vacant(PACKET); WIRE_ROWS];
     let mut resend_rows = [Row::vacant(ATTEMPT); RESEND_ROWS];
@@ -91,7 +91,7 @@ fn play<
     other_resend: &mut S,
     other_keepalive: &mut L,
 ) -> anyhow::Result<Pair>
-    ensures { IfOk result (λ p. W.Store.meaning wire.old ≡ X.Store.meaning other_wire.old → R.Store.meaning resend.old ≡ S.Store.meaning other_resend.old → K.Store.meaning keepalive.old ≡ L.Store.meaning other_keepalive.old → Both p.first p.second) }
+    ensures { IfOk result (λ p. W.meaning wire.old ≡ X.meaning other_wire.old → R.meaning resend.old ≡ S.meaning other_resend.old → K.meaning keepalive.old ≡ L.meaning other_keepalive.old → Both p.first p.second) }
 {
     let mut fates = [0; 2];
     let mut other_fates = [0; 2];

@@ -21,11 +21,11 @@ const MARGIN: u32 = 60_000;
 
 // Takes an entry that is due; where none is, the store stays as it was.
 fn take_due<P, S: Store<P>>(store: &mut S) -> Option<Expired<P>>
-    ensures answer { result ≡ (take_rule (S.Store.meaning store.old)).answer }
-    ensures after { S.Store.meaning store.new ≡ (take_rule (S.Store.meaning store.old)).after }
-    ensures idle { result ≡ None → S.Store.meaning store.new ≡ S.Store.meaning store.old }
-    ensures lenders { S.Store.lenders store.new ≡ S.Store.lenders store.old }
-    ensures beyond { S.Store.beyond store.new ≡ S.Store.beyond store.old }
+    ensures answer { result ≡ (take_rule (S.meaning store.old)).answer }
+    ensures after { S.meaning store.new ≡ (take_rule (S.meaning store.old)).after }
+    ensures idle { result ≡ None → S.meaning store.new ≡ S.meaning store.old }
+    ensures lenders { S.lenders store.new ≡ S.lenders store.old }
+    ensures beyond { S.beyond store.new ≡ S.beyond store.old }
 {
     store.take()
 }
@@ -40,11 +40,11 @@ fn proceed<W: Store<Packet>, R: Store<Attempt>, K: Store<u8>>(
     fates: &[u16],
 ) -> Result<Action, RigFault>
     requires fact_1 { length records.old ≡ 64 }
-    ensures answer { let s : State = state_of rig.old fates.now (W.Store.meaning wire.old) (R.Store.meaning resend.old) (K.Store.meaning keepalive.old) records.old in result ≡ (moved s).answer }
-    ensures after { let s : State = state_of rig.old fates.now (W.Store.meaning wire.old) (R.Store.meaning resend.old) (K.Store.meaning keepalive.old) records.old in state_of rig.new fates.now (W.Store.meaning wire.new) (R.Store.meaning resend.new) (K.Store.meaning keepalive.new) records.new ≡ (moved s).after }
-    ensures wire { (W.Store.lenders wire.new ≡ W.Store.lenders wire.old) × (W.Store.beyond wire.new ≡ W.Store.beyond wire.old) }
-    ensures resend { (R.Store.lenders resend.new ≡ R.Store.lenders resend.old) × (R.Store.beyond resend.new ≡ R.Store.beyond resend.old) }
-    ensures keepalive { (K.Store.lenders keepalive.new ≡ K.Store.lenders keepalive.old) × (K.Store.beyond keepalive.new ≡ K.Store.beyond keepalive.old) }
+    ensures answer { let s : State = state_of rig.old fates.now (W.meaning wire.old) (R.meaning resend.old) (K.meaning keepalive.old) records.old in result ≡ (moved s).answer }
+    ensures after { let s : State = state_of rig.old fates.now (W.meaning wire.old) (R.meaning resend.old) (K.meaning keepalive.old) records.old in state_of rig.new fates.now (W.meaning wire.new) (R.meaning resend.new) (K.meaning keepalive.new) records.new ≡ (moved s).after }
+    ensures wire { (W.lenders wire.new ≡ W.lenders wire.old) × (W.beyond wire.new ≡ W.beyond wire.old) }
+    ensures resend { (R.lenders resend.new ≡ R.lenders resend.old) × (R.beyond resend.new ≡ R.beyond resend.old) }
+    ensures keepalive { (K.lenders keepalive.new ≡ K.lenders keepalive.old) × (K.beyond keepalive.new ≡ K.beyond keepalive.old) }
 {
     if let Some(entry) = take_due(wire) {
         return Ok(arrival(rig, wire, resend, keepalive, records, fates, entry));
@@ -68,11 +68,11 @@ pub fn step<W: Store<Packet>, R: Store<Attempt>, K: Store<u8>>(
     fates: &[u16],
 ) -> Result<Action, RigFault>
     requires fact_1 { length records.old ≡ 64 }
-    ensures answer { let s : State = state_of rig.old fates.now (W.Store.meaning wire.old) (R.Store.meaning resend.old) (K.Store.meaning keepalive.old) records.old in result ≡ (step_body s).answer }
-    ensures after { let s : State = state_of rig.old fates.now (W.Store.meaning wire.old) (R.Store.meaning resend.old) (K.Store.meaning keepalive.old) records.old in state_of rig.new fates.now (W.Store.meaning wire.new) (R.Store.meaning resend.new) (K.Store.meaning keepalive.new) records.new ≡ (step_body s).after }
-    ensures wire { (W.Store.lenders wire.new ≡ W.Store.lenders wire.old) × (W.Store.beyond wire.new ≡ W.Store.beyond wire.old) }
-    ensures resend { (R.Store.lenders resend.new ≡ R.Store.lenders resend.old) × (R.Store.beyond resend.new ≡ R.Store.beyond resend.old) }
-    ensures keepalive { (K.Store.lenders keepalive.new ≡ K.Store.lenders keepalive.old) × (K.Store.beyond keepalive.new ≡ K.Store.beyond keepalive.old) }
+    ensures answer { let s : State = state_of rig.old fates.now (W.meaning wire.old) (R.meaning resend.old) (K.meaning keepalive.old) records.old in result ≡ (step_body s).answer }
+    ensures after { let s : State = state_of rig.old fates.now (W.meaning wire.old) (R.meaning resend.old) (K.meaning keepalive.old) records.old in state_of rig.new fates.now (W.meaning wire.new) (R.meaning resend.new) (K.meaning keepalive.new) records.new ≡ (step_body s).after }
+    ensures wire { (W.lenders wire.new ≡ W.lenders wire.old) × (W.beyond wire.new ≡ W.beyond wire.old) }
+    ensures resend { (R.lenders resend.new ≡ R.lenders resend.old) × (R.beyond resend.new ≡ R.beyond resend.old) }
+    ensures keepalive { (K.lenders keepalive.new ≡ K.lenders keepalive.old) × (K.beyond keepalive.new ≡ K.beyond keepalive.old) }
 {
     if rig.low(wire, resend, keepalive) {
         return Err(RigFault::Spent);

@@ -7,10 +7,10 @@ use crate::store::Store;
 
 /// Makes one call of a store, and answers what the store answered.
 pub fn perform<P: Copy, S: Store<P>>(store: &mut S, call: Call<P>) -> Answer<P>
-    ensures answer { result ≡ call_answer (meaning store.old) call }
-    ensures after { meaning store.new ≡ call_after (meaning store.old) call }
-    ensures lenders { S.Store.lenders store.new ≡ S.Store.lenders store.old }
-    ensures beyond { S.Store.beyond store.new ≡ S.Store.beyond store.old }
+    ensures answer { result ≡ call_answer (S.meaning store.old) call }
+    ensures after { S.meaning store.new ≡ call_after (S.meaning store.old) call }
+    ensures lenders { S.lenders store.new ≡ S.lenders store.old }
+    ensures beyond { S.beyond store.new ≡ S.beyond store.old }
 {
     match call {
         Call::Start(deadline, owner, payload) => Answer::Start(store.start(
@@ -26,11 +26,11 @@ pub fn perform<P: Copy, S: Store<P>>(store: &mut S, call: Call<P>) -> Answer<P>
 ///
 /// Whatever the store is and whatever the calls are, what they did to the timers obeys the laws of a history.
 pub fn play<P: Copy, S: Store<P>>(store: &mut S, calls: &[Call<P>])
-    ensures after { meaning store.new ≡ ends (meaning store.old) calls.now }
-    ensures begun { Fresh (meaning store.old) → Lawful (meaning store.new) (events (meaning store.old) calls.now) }
-    ensures lawful { (es : List Event) → Lawful (meaning store.old) es → Lawful (meaning store.new) (es ++ events (meaning store.old) calls.now) }
-    ensures lenders { S.Store.lenders store.new ≡ S.Store.lenders store.old }
-    ensures beyond { S.Store.beyond store.new ≡ S.Store.beyond store.old }
+    ensures after { S.meaning store.new ≡ ends (S.meaning store.old) calls.now }
+    ensures begun { Fresh (S.meaning store.old) → Lawful (S.meaning store.new) (events (S.meaning store.old) calls.now) }
+    ensures lawful { (es : List Event) → Lawful (S.meaning store.old) es → Lawful (S.meaning store.new) (es ++ events (S.meaning store.old) calls.now) }
+    ensures lenders { S.lenders store.new ≡ S.lenders store.old }
+    ensures beyond { S.beyond store.new ≡ S.beyond store.old }
 {
     for call in calls {
         let _ = perform(store, *call);

@@ -93,8 +93,8 @@ pub trait Store<P> {
 
 /// The number of the refusal that `check` answers, or 0.
 pub fn check_number<P: Copy, S: Store<P>>(store: &S, deadline: u32, owner: u8) -> u8
-    ensures value { result ≡ checked_number (check_rule (meaning store.now) deadline owner) }
-    ensures lowest { Lowest (applies (meaning store.now) deadline owner) (check_rule (meaning store.now) deadline owner) }
+    ensures value { result ≡ checked_number (check_rule (S.meaning store.now) deadline owner) }
+    ensures lowest { Lowest (applies (S.meaning store.now) deadline owner) (check_rule (S.meaning store.now) deadline owner) }
 {
     match store.check(deadline, owner) {
         Some(fault) => fault.number(),

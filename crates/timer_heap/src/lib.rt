@@ -1,3 +1,5 @@
+#![tactic(auto)]
+
 pub mod heap;
 mod lent;
 mod ordered;

@@ -1,3 +1,5 @@
+#![tactic(auto)]
+
 mod lent;
 pub mod list;
 mod sorted;

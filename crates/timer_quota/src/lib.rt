@@ -1,2 +1,4 @@
+#![tactic(auto)]
+
 pub mod quota;
 pub mod store;

@@ -7,15 +7,15 @@ use timer::fault::TimerFault;
 use timer::store::Store;
 
 impl<'s, P: Copy, S: Store<P>> Store<P> for Quota<'s, S> {
-    ghost meaning = { λ s. limited (S.Store.meaning s.inner.now) s.numbers };
+    ghost meaning = { λ s. limited (S.meaning s.inner.now) s.numbers };
 
-    ghost sound = { λ s. limited_sound (S.Store.meaning s.inner.now) s.numbers (S.Store.sound s.inner.now) };
+    ghost sound = { λ s. limited_sound (S.meaning s.inner.now) s.numbers (S.sound s.inner.now) };
 
-    ghost lenders = { λ s. s.inner.ghost_name ∷ S.Store.lenders s.inner.now };
+    ghost lenders = { λ s. s.inner.ghost_name ∷ S.lenders s.inner.now };
 
-    ghost spare = { S.Store.spare };
+    ghost spare = { S.spare };
 
-    ghost beyond = { λ s. S.Store.beyond s.inner.now };
+    ghost beyond = { λ s. S.beyond s.inner.now };
 
     fn now(&self) -> u32 {
         self.inner.now()

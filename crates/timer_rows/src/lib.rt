@@ -1,3 +1,5 @@
+#![tactic(auto)]
+
 pub mod ends;
 pub mod entries;
 pub mod ledger;

@@ -1,3 +1,5 @@
+#![tactic(auto)]
+
 mod calls;
 mod cascade;
 mod lent;

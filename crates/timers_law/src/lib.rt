@@ -1,3 +1,5 @@
+#![tactic(auto)]
+
 ghost use Rattle.timers_law.specs.Begins.{Begins};
 ghost use Rattle.timers_law.specs.Ends.{Ends};
 ghost use Rattle.timers_law.specs.Restarts.{Restarts};

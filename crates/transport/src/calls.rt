@@ -27,10 +27,10 @@ impl Running {
         fates: &[u16],
         channel: u32,
     ) -> Result<Action, RigFault>
-        ensures answer { result ≡ (open_rule (state_of self.now fates.now (W.Store.meaning wire.now) (R.Store.meaning resend.now) (K.Store.meaning keepalive.old) (take 64 table.old)) channel).answer }
-        ensures after { state_of self.now fates.now (W.Store.meaning wire.now) (R.Store.meaning resend.now) (K.Store.meaning keepalive.new) (take 64 table.new) ≡ (open_rule (state_of self.now fates.now (W.Store.meaning wire.now) (R.Store.meaning resend.now) (K.Store.meaning keepalive.old) (take 64 table.old)) channel).after }
+        ensures answer { result ≡ (open_rule (state_of self.now fates.now (W.meaning wire.now) (R.meaning resend.now) (K.meaning keepalive.old) (take 64 table.old)) channel).answer }
+        ensures after { state_of self.now fates.now (W.meaning wire.now) (R.meaning resend.now) (K.meaning keepalive.new) (take 64 table.new) ≡ (open_rule (state_of self.now fates.now (W.meaning wire.now) (R.meaning resend.now) (K.meaning keepalive.old) (take 64 table.old)) channel).after }
         ensures later { drop 64 table.new ≡ drop 64 table.old }
-        ensures keepalive { (K.Store.lenders keepalive.new ≡ K.Store.lenders keepalive.old) × (K.Store.beyond keepalive.new ≡ K.Store.beyond keepalive.old) }
+        ensures keepalive { (K.lenders keepalive.new ≡ K.lenders keepalive.old) × (K.beyond keepalive.new ≡ K.beyond keepalive.old) }
     {
         if table.len() < CHANNELS {
             return Err(RigFault::Table);
@@ -57,11 +57,11 @@ impl Running {
         channel: u32,
         word: u32,
     ) -> Result<Action, RigFault>
-        ensures answer { result ≡ (send_rule (state_of self.old fates.now (W.Store.meaning wire.old) (R.Store.meaning resend.old) (K.Store.meaning keepalive.now) (take 64 table.old)) channel word).answer }
-        ensures after { state_of self.new fates.now (W.Store.meaning wire.new) (R.Store.meaning resend.new) (K.Store.meaning keepalive.now) (take 64 table.new) ≡ (send_rule (state_of self.old fates.now (W.Store.meaning wire.old) (R.Store.meaning resend.old) (K.Store.meaning keepalive.now) (take 64 table.old)) channel word).after }
+        ensures answer { result ≡ (send_rule (state_of self.old fates.now (W.meaning wire.old) (R.meaning resend.old) (K.meaning keepalive.now) (take 64 table.old)) channel word).answer }
+        ensures after { state_of self.new fates.now (W.meaning wire.new) (R.meaning resend.new) (K.meaning keepalive.now) (take 64 table.new) ≡ (send_rule (state_of self.old fates.now (W.meaning wire.old) (R.meaning resend.old) (K.meaning keepalive.now) (take 64 table.old)) channel word).after }
         ensures later { drop 64 table.new ≡ drop 64 table.old }
-        ensures wire { (W.Store.lenders wire.new ≡ W.Store.lenders wire.old) × (W.Store.beyond wire.new ≡ W.Store.beyond wire.old) }
-        ensures resend { (R.Store.lenders resend.new ≡ R.Store.lenders resend.old) × (R.Store.beyond resend.new ≡ R.Store.beyond resend.old) }
+        ensures wire { (W.lenders wire.new ≡ W.lenders wire.old) × (W.beyond wire.new ≡ W.beyond wire.old) }
+        ensures resend { (R.lenders resend.new ≡ R.lenders resend.old) × (R.beyond resend.new ≡ R.beyond resend.old) }
     {
         if table.len() < CHANNELS {
             return Err(RigFault::Table);
@@ -88,8 +88,8 @@ impl Running {
         fates: &[u16],
         channel: u32,
     ) -> Result<Action, RigFault>
-        ensures answer { result ≡ (receive_rule (state_of self.now fates.now (W.Store.meaning wire.now) (R.Store.meaning resend.now) (K.Store.meaning keepalive.now) (take 64 table.old)) channel).answer }
-        ensures after { state_of self.now fates.now (W.Store.meaning wire.now) (R.Store.meaning resend.now) (K.Store.meaning keepalive.now) (take 64 table.new) ≡ (receive_rule (state_of self.now fates.now (W.Store.meaning wire.now) (R.Store.meaning resend.now) (K.Store.meaning keepalive.now) (take 64 table.old)) channel).after }
+        ensures answer { result ≡ (receive_rule (state_of self.now fates.now (W.meaning wire.now) (R.meaning resend.now) (K.meaning keepalive.now) (take 64 table.old)) channel).answer }
+        ensures after { state_of self.now fates.now (W.meaning wire.now) (R.meaning resend.now) (K.meaning keepalive.now) (take 64 table.new) ≡ (receive_rule (state_of self.now fates.now (W.meaning wire.now) (R.meaning resend.now) (K.meaning keepalive.now) (take 64 table.old)) channel).after }
         ensures later { drop 64 table.new ≡ drop 64 table.old }
     {
         if table.len() < CHANNELS {
@@ -116,11 +116,11 @@ impl Running {
         fates: &[u16],
         channel: u32,
     ) -> Result<Action, RigFault>
-        ensures answer { result ≡ (close_rule (state_of self.now fates.now (W.Store.meaning wire.now) (R.Store.meaning resend.old) (K.Store.meaning keepalive.old) (take 64 table.old)) channel).answer }
-        ensures after { state_of self.now fates.now (W.Store.meaning wire.now) (R.Store.meaning resend.new) (K.Store.meaning keepalive.new) (take 64 table.new) ≡ (close_rule (state_of self.now fates.now (W.Store.meaning wire.now) (R.Store.meaning resend.old) (K.Store.meaning keepalive.old) (take 64 table.old)) channel).after }
+        ensures answer { result ≡ (close_rule (state_of self.now fates.now (W.meaning wire.now) (R.meaning resend.old) (K.meaning keepalive.old) (take 64 table.old)) channel).answer }
+        ensures after { state_of self.now fates.now (W.meaning wire.now) (R.meaning resend.new) (K.meaning keepalive.new) (take 64 table.new) ≡ (close_rule (state_of self.now fates.now (W.meaning wire.now) (R.meaning resend.old) (K.meaning keepalive.old) (take 64 table.old)) channel).after }
         ensures later { drop 64 table.new ≡ drop 64 table.old }
-        ensures resend { (R.Store.lenders resend.new ≡ R.Store.lenders resend.old) × (R.Store.beyond resend.new ≡ R.Store.beyond resend.old) }
-        ensures keepalive { (K.Store.lenders keepalive.new ≡ K.Store.lenders keepalive.old) × (K.Store.beyond keepalive.new ≡ K.Store.beyond keepalive.old) }
+        ensures resend { (R.lenders resend.new ≡ R.lenders resend.old) × (R.beyond resend.new ≡ R.beyond resend.old) }
+        ensures keepalive { (K.lenders keepalive.new ≡ K.lenders keepalive.old) × (K.beyond keepalive.new ≡ K.beyond keepalive.old) }
     {
         if table.len() < CHANNELS {
             return Err(RigFault::Table);
@@ -145,12 +145,12 @@ impl Running {
         table: &mut [Channel],
         fates: &[u16],
     ) -> Result<Action, RigFault>
-        ensures answer { result ≡ (step_rule (state_of self.old fates.now (W.Store.meaning wire.old) (R.Store.meaning resend.old) (K.Store.meaning keepalive.old) (take 64 table.old))).answer }
-        ensures after { state_of self.new fates.now (W.Store.meaning wire.new) (R.Store.meaning resend.new) (K.Store.meaning keepalive.new) (take 64 table.new) ≡ (step_rule (state_of self.old fates.now (W.Store.meaning wire.old) (R.Store.meaning resend.old) (K.Store.meaning keepalive.old) (take 64 table.old))).after }
+        ensures answer { result ≡ (step_rule (state_of self.old fates.now (W.meaning wire.old) (R.meaning resend.old) (K.meaning keepalive.old) (take 64 table.old))).answer }
+        ensures after { state_of self.new fates.now (W.meaning wire.new) (R.meaning resend.new) (K.meaning keepalive.new) (take 64 table.new) ≡ (step_rule (state_of self.old fates.now (W.meaning wire.old) (R.meaning resend.old) (K.meaning keepalive.old) (take 64 table.old))).after }
         ensures later { drop 64 table.new ≡ drop 64 table.old }
-        ensures wire { (W.Store.lenders wire.new ≡ W.Store.lenders wire.old) × (W.Store.beyond wire.new ≡ W.Store.beyond wire.old) }
-        ensures resend { (R.Store.lenders resend.new ≡ R.Store.lenders resend.old) × (R.Store.beyond resend.new ≡ R.Store.beyond resend.old) }
-        ensures keepalive { (K.Store.lenders keepalive.new ≡ K.Store.lenders keepalive.old) × (K.Store.beyond keepalive.new ≡ K.Store.beyond keepalive.old) }
+        ensures wire { (W.lenders wire.new ≡ W.lenders wire.old) × (W.beyond wire.new ≡ W.beyond wire.old) }
+        ensures resend { (R.lenders resend.new ≡ R.lenders resend.old) × (R.beyond resend.new ≡ R.beyond resend.old) }
+        ensures keepalive { (K.lenders keepalive.new ≡ K.lenders keepalive.old) × (K.beyond keepalive.new ≡ K.beyond keepalive.old) }
     {
         if table.len() < CHANNELS {
             return Err(RigFault::Table);

@@ -20,14 +20,14 @@ const LEAST_SPAN: u32 = 60_000;
 
 // Whether two stores differ in their tick or their last tick.
 fn apart<P, Q, S: Store<P>, T: Store<Q>>(first: &S, second: &T) -> bool
-    ensures { result ≡ apart (S.Store.meaning first.now) (T.Store.meaning second.now) }
+    ensures { result ≡ apart (S.meaning first.now) (T.meaning second.now) }
 {
     !(first.now() == second.now() && first.last() == second.last())
 }
 
 // Whether a store has pending entries or gave tickets.
 fn used<P, S: Store<P>>(store: &S) -> bool
-    ensures { result ≡ used (S.Store.meaning store.now) }
+    ensures { result ≡ used (S.meaning store.now) }
 {
     !(store.pending() == 0 && store.given() == 0)
 }
@@ -38,7 +38,7 @@ fn any_apart<W: Store<Packet>, R: Store<Attempt>, K: Store<u8>>(
     resend: &R,
     keepalive: &K,
 ) -> bool
-    ensures { result ≡ (apart (W.Store.meaning wire.now) (R.Store.meaning resend.now) || apart (W.Store.meaning wire.now) (K.Store.meaning keepalive.now)) }
+    ensures { result ≡ (apart (W.meaning wire.now) (R.meaning resend.now) || apart (W.meaning wire.now) (K.meaning keepalive.now)) }
 {
     apart(wire, resend) || apart(wire, keepalive)
 }
@@ -49,15 +49,15 @@ fn any_used<W: Store<Packet>, R: Store<Attempt>, K: Store<u8>>(
     resend: &R,
     keepalive: &K,
 ) -> bool
-    ensures { result ≡ (used (W.Store.meaning wire.now) || (used (R.Store.meaning resend.now) || used (K.Store.meaning keepalive.now))) }
+    ensures { result ≡ (used (W.meaning wire.now) || (used (R.meaning resend.now) || used (K.meaning keepalive.now))) }
 {
     used(wire) || used(resend) || used(keepalive)
 }
 
 // Whether the last tick is too near.
 fn brief<P, S: Store<P>>(store: &S) -> bool
-    ensures value { result ≡ brief (S.Store.meaning store.now) }
-    ensures fits { (S.Store.meaning store.now).last ≤ 4294967295 }
+    ensures value { result ≡ brief (S.meaning store.now) }
+    ensures fits { (S.meaning store.now).last ≤ 4294967295 }
 {
     store.last().saturating_sub(store.now()) < LEAST_SPAN
 }
@@ -115,9 +115,9 @@ impl Draft {
         keepalive: &K,
         records: usize,
     ) -> Result<u16, RigFault>
-        ensures value { result ≡ unless_refused (begin_check self.now.delay self.now.interval (W.Store.meaning wire.now) (R.Store.meaning resend.now) (K.Store.meaning keepalive.now) records) self.now.delay }
+        ensures value { result ≡ unless_refused (begin_check self.now.delay self.now.interval (W.meaning wire.now) (R.meaning resend.now) (K.meaning keepalive.now) records) self.now.delay }
         ensures room { OnOk result (64 ≤ records) }
-        ensures fits { OnOk result ((W.Store.meaning wire.now).last ≤ 4294967295) }
+        ensures fits { OnOk result ((W.meaning wire.now).last ≤ 4294967295) }
     {
         let Some(delay) = self.setting() else {
             return Err(RigFault::Setting);
@@ -145,8 +145,8 @@ impl Draft {
         keepalive: &K,
         table: &mut [Channel],
     ) -> Result<Running, Refused>
-        ensures begins { Begins (begin_check self.delay self.interval (W.Store.meaning wire.now) (R.Store.meaning resend.now) (K.Store.meaning keepalive.now) (length table.old)) self table.old result table.new }
-        ensures fits { OnOk result ((W.Store.meaning wire.now).last ≤ 4294967295) }
+        ensures begins { Begins (begin_check self.delay self.interval (W.meaning wire.now) (R.meaning resend.now) (K.meaning keepalive.now) (length table.old)) self table.old result table.new }
+        ensures fits { OnOk result ((W.meaning wire.now).last ≤ 4294967295) }
     {
         match self.check(wire, resend, keepalive, table.len()) {
             Err(fault) => Err(Refused { draft: self, fault }),

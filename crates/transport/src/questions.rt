@@ -58,7 +58,7 @@ impl Running {
 
     /// Ends the session in the wire's tick.
     pub fn finish<W: Store<Packet>>(self, wire: &W) -> Finished
-        ensures { result ≡ record { tick = (W.Store.meaning wire.now).now; packets = self.rig.packets } }
+        ensures { result ≡ record { tick = (W.meaning wire.now).now; packets = self.rig.packets } }
     {
         let Running { rig } = self;
         Finished {
