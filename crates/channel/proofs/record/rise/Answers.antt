@@ -10,7 +10,7 @@ loop-turn-preserved c =
     let places : List SendPlace = c.args.places.now in
     let here : get_or places (c.loop-turn.risen % 8) Answered ≡ Answered =
     ap (λ n. get_or places n Answered) (sym c.place.ensures) ∙ c.in-Answered.is in
-    ap (λ b. risen (8 - (c.loop-turn.-turn + 1)) b c.args.next places) c.saturating-add-risen.ensures
+    ap (λ b. risen (8 - (c.loop-turn.-turn + 1)) b c.args.next places) c.saturating_add-risen.ensures
     ∙ sym (turned c.loop-turn.-turn c.loop-turn.risen c.args.next places c.loop-turn-test.true c.if-risen-next.false here)
     ∙ c.loop-turn.invariant
 

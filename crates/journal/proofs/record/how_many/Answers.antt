@@ -5,7 +5,7 @@ use Rattle.journal.specs.declared.note.Kind.{Kind}
 use Rattle.journal.specs.declared.note.Note.{Note}
 use Rattle.journal.specs.Notes.{kind_count, of_kind}
 use Rattle.journal.proofs.record.how_many.Goals as goal
-use Rattle.journal.proofs.record.how_many.Goals.{then-is-kind, else-is-kind}
+use Rattle.journal.proofs.record.how_many.Goals.{then-is_kind, else-is_kind}
 
 -- one note more, which is of the kind or not
 counted_one : (k : Kind) (n : Note) (ns : List Note) (a b i all : ℕ) → of_kind k n.effect ≡ true → b ≡ a + 1 → {h : ℕ} → h ≡ kind_count k (n ∷ ns) → (a ≤ i) × (a + h ≡ all) → (b ≤ i + 1) × (b + kind_count k ns ≡ all)
@@ -22,9 +22,9 @@ pub loop-note-preserved : goal.loop-note-preserved
 loop-note-preserved c =
     let e = at_drop_more (kind_count c.args.kind) c.args.notes.now c.loop-note.note-index (record { tick = 0; effect = Started 0 0 0 0 }) c.loop-note-test.true in
     let n = get_or c.args.notes.now c.loop-note.note-index (record { tick = 0; effect = Started 0 0 0 0 }) in
-    elim c.if-is-kind.branch [
-      | then-is-kind w ↦ counted_one c.args.kind n _ c.loop-note.count _ c.loop-note.note-index _ (sym c.is-kind.ensures ∙ w.if-is-kind.true) w.count-is e c.loop-note.invariant
-      | else-is-kind w ↦ counted_none c.args.kind n _ c.loop-note.count _ c.loop-note.note-index _ (sym c.is-kind.ensures ∙ w.if-is-kind.false) w.count-is e c.loop-note.invariant
+    elim c.if-is_kind.branch [
+      | then-is_kind w ↦ counted_one c.args.kind n _ c.loop-note.count _ c.loop-note.note-index _ (sym c.is_kind.ensures ∙ w.if-is_kind.true) w.count-is e c.loop-note.invariant
+      | else-is_kind w ↦ counted_none c.args.kind n _ c.loop-note.count _ c.loop-note.note-index _ (sym c.is_kind.ensures ∙ w.if-is_kind.false) w.count-is e c.loop-note.invariant
     ]
 
 pub returns : goal.returns

@@ -14,16 +14,16 @@ loop-command-init g c =
     let r : Ready s = search rules in
     (underway_none s (vec_items c.args.notes.now) (calls_of s c.args.commands.now), r, refl, refl, refl, refl, refl, refl, refl)
 
-pub returns-in-err-carry-out : goal.returns-in-err-carry-out
-returns-in-err-carry-out g c =
+pub returns-in_err-carry_out : goal.returns-in_err-carry_out
+returns-in_err-carry_out g c =
     let s : State = state_of c.args.rig.now c.args.fates.now (g.W.Store.meaning c.args.wire.now) (g.R.Store.meaning c.args.resend.now) (g.K.Store.meaning c.args.keepalive.now) (take 64 c.args.table.now) in
     let t : State = state_of c.loop-command.rig c.args.fates.now (g.W.Store.meaning c.loop-command.wire) (g.R.Store.meaning c.loop-command.resend) (g.K.Store.meaning c.loop-command.keepalive) (take 64 c.loop-command.table) in
-    let u : State = state_of c.carry-out.new.rig c.args.fates.now (g.W.Store.meaning c.carry-out.new.wire) (g.R.Store.meaning c.carry-out.new.resend) (g.K.Store.meaning c.carry-out.new.keepalive) (take 64 c.carry-out.new.table) in
+    let u : State = state_of c.carry_out.new.rig c.args.fates.now (g.W.Store.meaning c.carry_out.new.wire) (g.R.Store.meaning c.carry_out.new.resend) (g.K.Store.meaning c.carry_out.new.keepalive) (take 64 c.carry_out.new.table) in
     let i = c.loop-command.invariant in
-    let e = c.carry-out.ensures in
-    let w = command_broken s (vec_items c.args.notes.now) c.args.commands.now c.loop-command.command-index _ t (vec_items c.loop-command.notes) u (vec_items c.carry-out.new.notes) i.0 c.loop-command-test.true c.in-err-carry-out.ensures.went in
+    let e = c.carry_out.ensures in
+    let w = command_broken s (vec_items c.args.notes.now) c.args.commands.now c.loop-command.command-index _ t (vec_items c.loop-command.notes) u (vec_items c.carry_out.new.notes) i.0 c.loop-command-test.true c.in_err-carry_out.ensures.went in
     record {
-      went = subst (λ (b : Bool). Went s (vec_items c.args.notes.now) (calls_of s c.args.commands.now) b u (vec_items c.carry-out.new.notes)) (sym (not_well c.from-residual.result c.from-residual.ensures.0)) w;
+      went = subst (λ (b : Bool). Went s (vec_items c.args.notes.now) (calls_of s c.args.commands.now) b u (vec_items c.carry_out.new.notes)) (sym (not_well c.from_residual.result c.from_residual.ensures.0)) w;
       later = e.later ∙ i.2;
       wire = (e.wire.0 ∙ i.3, e.wire.1 ∙ i.4);
       resend = (e.resend.0 ∙ i.5, e.resend.1 ∙ i.6);
@@ -34,12 +34,12 @@ pub loop-command-preserved : goal.loop-command-preserved
 loop-command-preserved g c =
     let s : State = state_of c.args.rig.now c.args.fates.now (g.W.Store.meaning c.args.wire.now) (g.R.Store.meaning c.args.resend.now) (g.K.Store.meaning c.args.keepalive.now) (take 64 c.args.table.now) in
     let t : State = state_of c.loop-command.rig c.args.fates.now (g.W.Store.meaning c.loop-command.wire) (g.R.Store.meaning c.loop-command.resend) (g.K.Store.meaning c.loop-command.keepalive) (take 64 c.loop-command.table) in
-    let u : State = state_of c.carry-out.new.rig c.args.fates.now (g.W.Store.meaning c.carry-out.new.wire) (g.R.Store.meaning c.carry-out.new.resend) (g.K.Store.meaning c.carry-out.new.keepalive) (take 64 c.carry-out.new.table) in
+    let u : State = state_of c.carry_out.new.rig c.args.fates.now (g.W.Store.meaning c.carry_out.new.wire) (g.R.Store.meaning c.carry_out.new.resend) (g.K.Store.meaning c.carry_out.new.keepalive) (take 64 c.carry_out.new.table) in
     let i = c.loop-command.invariant in
-    let e = c.carry-out.ensures in
-    let w = c.in-ok-carry-out.ensures.went in (
-      command_played s (vec_items c.args.notes.now) c.args.commands.now c.loop-command.command-index _ t (vec_items c.loop-command.notes) u (vec_items c.carry-out.new.notes) i.0 c.loop-command-test.true w,
-      went_ready t (vec_items c.loop-command.notes) _ true u (vec_items c.carry-out.new.notes) i.1 w,
+    let e = c.carry_out.ensures in
+    let w = c.in_ok-carry_out.ensures.went in (
+      command_played s (vec_items c.args.notes.now) c.args.commands.now c.loop-command.command-index _ t (vec_items c.loop-command.notes) u (vec_items c.carry_out.new.notes) i.0 c.loop-command-test.true w,
+      went_ready t (vec_items c.loop-command.notes) _ true u (vec_items c.carry_out.new.notes) i.1 w,
       e.later ∙ i.2,
       e.wire.0 ∙ i.3,
       e.wire.1 ∙ i.4,

@@ -15,7 +15,7 @@ note_more os ps ns i n l e f =
 
 pub loop-note-preserved : goal.loop-note-preserved
 loop-note-preserved c =
-    note_more _ _ c.args.notes.now c.loop-note.note-index _ c.loop-note-test.true c.loop-note.invariant c.in-ok-append-note.ensures
+    note_more _ _ c.args.notes.now c.loop-note.note-index _ c.loop-note-test.true c.loop-note.invariant c.in_ok-append_note.ensures
 
 pub returns : goal.returns
 returns c = search (rules, take_all)

@@ -12,9 +12,9 @@ use Rattle.replay.proofs.run.run.Goals as goal
 pub play-requires : goal.play-requires
 play-requires g c κs within =
     let l : Lent = record { wire = g.W.Store.meaning c.args.wire.now; resend = g.R.Store.meaning c.args.resend.now; keepalive = g.K.Store.meaning c.args.keepalive.now; table = c.args.table.now } in
-    let b = c.in-ok-rig.ensures.begins in
-    let r : Ready (state_of c.in-ok-rig.rig c.args.fates.now l.wire l.resend l.keepalive (take 64 c.begin.new.table)) =
-    first_ready c.args.draft c.args.fates.now l c.in-ok-rig.rig c.begin.new.table b.1 b.2 (length c.args.table.now) b.0 c.in-ok-rig.ensures.fits in
+    let b = c.in_ok-rig.ensures.begins in
+    let r : Ready (state_of c.in_ok-rig.rig c.args.fates.now l.wire l.resend l.keepalive (take 64 c.begin.new.table)) =
+    first_ready c.args.draft c.args.fates.now l c.in_ok-rig.rig c.begin.new.table b.1 b.2 (length c.args.table.now) b.0 c.in_ok-rig.ensures.fits in
     (within.0, (within.1.0, (within.1.1, r)))
 
 pub returns : goal.returns
@@ -24,22 +24,22 @@ returns g c =
     let d = c.args.draft in
     let fates = c.args.fates.now in
     let xs = c.args.commands.now in
-    let rig = c.in-ok-rig.rig in
+    let rig = c.in_ok-rig.rig in
     let t = c.begin.new.table in
-    let b = c.in-ok-rig.ensures.begins in
+    let b = c.in_ok-rig.ensures.begins in
     let n = length c.args.table.now in
     let s : State = first_state d fates l in
     let z : State = state_of rig fates l.wire l.resend l.keepalive (take 64 t) in
     let u : State = state_of c.play.new.rig fates m.wire m.resend m.keepalive (take 64 m.table) in
-    let session : Session = record { notes = c.play.new.notes; finished = c.finish-finished.result; text = c.in-ok-text.text } in
+    let session : Session = record { notes = c.play.new.notes; finished = c.finish-finished.result; text = c.in_ok-text.text } in
     let e = c.play.ensures in
     let h : Holds u m = record { wire = refl; resend = refl; keepalive = refl; table = refl } in
-    let w = from_first s z (vec_items c.new-notes.result) xs true u (vec_items c.play.new.notes) (begun_state d fates l rig t b.1 b.2) c.new-notes.ensures.items c.in-ok-play.ensures.went in
+    let w = from_first s z (vec_items c.new-notes.result) xs true u (vec_items c.play.new.notes) (begun_state d fates l rig t b.1 b.2) c.new-notes.ensures.items c.in_ok-play.ensures.went in
     let text : vec_items session.text ≡ session_text (vec_items session.notes) session.finished.tick session.finished.packets = search rules in
     record {
       outcome = (
         b.0,
-        played s xs u session m (first_begun d fates l rig t b.1 b.2 n b.0 c.in-ok-rig.ensures.fits) w
+        played s xs u session m (first_begun d fates l rig t b.1 b.2 n b.0 c.in_ok-rig.ensures.fits) w
             (ap (λ (x : Finished). x.tick) c.finish-finished.ensures) (ap (λ (x : Finished). x.packets) c.finish-finished.ensures) text h,
       );
       later = e.later ∙ b.3;

@@ -19,14 +19,14 @@ pub returns-then-not-branch : goal.returns-then-not-branch
 returns-then-not-branch g c =
     let s : State = state_of c.args.rig.now c.args.fates.now (g.W.Store.meaning c.args.wire.now) (g.R.Store.meaning c.args.resend.now) (g.K.Store.meaning c.args.keepalive.now) (take 64 c.args.table.now) in
     let t : State = state_of c.loop-rig.rig c.args.fates.now (g.W.Store.meaning c.loop-rig.wire) (g.R.Store.meaning c.loop-rig.resend) (g.K.Store.meaning c.loop-rig.keepalive) (take 64 c.loop-rig.table) in
-    let u : State = state_of c.step-once.new.rig c.args.fates.now (g.W.Store.meaning c.step-once.new.wire) (g.R.Store.meaning c.step-once.new.resend) (g.K.Store.meaning c.step-once.new.keepalive) (take 64 c.step-once.new.table) in
+    let u : State = state_of c.step_once.new.rig c.args.fates.now (g.W.Store.meaning c.step_once.new.wire) (g.R.Store.meaning c.step_once.new.resend) (g.K.Store.meaning c.step_once.new.keepalive) (take 64 c.step_once.new.table) in
     let i = c.loop-rig.invariant in
-    let e = c.step-once.ensures in
-    let k = c.in-ok-step-once.ensures.cases in
-    let on : goes_on t c.args.tick ≡ true = sym c.goes-on.ensures ∙ c.loop-rig-test.true in
+    let e = c.step_once.ensures in
+    let k = c.in_ok-step_once.ensures.cases in
+    let on : goes_on t c.args.tick ≡ true = sym c.goes_on.ensures ∙ c.loop-rig-test.true in
     let no' : is_ok (step_rule t).answer ≡ false = sym k.0 ∙ c.if-not-branch.true in
     record {
-      went = refused s (vec_items c.args.notes.now) c.args.tick t (vec_items c.loop-rig.notes) i.0 u (vec_items c.step-once.new.notes) on k.1 k.2 no';
+      went = refused s (vec_items c.args.notes.now) c.args.tick t (vec_items c.loop-rig.notes) i.0 u (vec_items c.step_once.new.notes) on k.1 k.2 no';
       later = e.later ∙ i.2;
       wire = (e.wire.0 ∙ i.3, e.wire.1 ∙ i.4);
       resend = (e.resend.0 ∙ i.5, e.resend.1 ∙ i.6);
@@ -37,9 +37,9 @@ pub loop-rig-smaller : goal.loop-rig-smaller
 loop-rig-smaller g c =
     let s : State = state_of c.args.rig.now c.args.fates.now (g.W.Store.meaning c.args.wire.now) (g.R.Store.meaning c.args.resend.now) (g.K.Store.meaning c.args.keepalive.now) (take 64 c.args.table.now) in
     let t : State = state_of c.loop-rig.rig c.args.fates.now (g.W.Store.meaning c.loop-rig.wire) (g.R.Store.meaning c.loop-rig.resend) (g.K.Store.meaning c.loop-rig.keepalive) (take 64 c.loop-rig.table) in
-    let u : State = state_of c.step-once.new.rig c.args.fates.now (g.W.Store.meaning c.step-once.new.wire) (g.R.Store.meaning c.step-once.new.resend) (g.K.Store.meaning c.step-once.new.keepalive) (take 64 c.step-once.new.table) in
-    let k = c.in-ok-step-once.ensures.cases in
-    let on : goes_on t c.args.tick ≡ true = sym c.goes-on.ensures ∙ c.loop-rig-test.true in
+    let u : State = state_of c.step_once.new.rig c.args.fates.now (g.W.Store.meaning c.step_once.new.wire) (g.R.Store.meaning c.step_once.new.resend) (g.K.Store.meaning c.step_once.new.keepalive) (take 64 c.step_once.new.table) in
+    let k = c.in_ok-step_once.ensures.cases in
+    let on : goes_on t c.args.tick ≡ true = sym c.goes_on.ensures ∙ c.loop-rig-test.true in
     let ok : is_ok (step_rule t).answer ≡ true = sym k.0 ∙ c.if-not-branch.false in
     falls c.args.tick t u c.loop-rig.invariant.1 on ok k.1
 
@@ -47,13 +47,13 @@ pub loop-rig-preserved : goal.loop-rig-preserved
 loop-rig-preserved g c =
     let s : State = state_of c.args.rig.now c.args.fates.now (g.W.Store.meaning c.args.wire.now) (g.R.Store.meaning c.args.resend.now) (g.K.Store.meaning c.args.keepalive.now) (take 64 c.args.table.now) in
     let t : State = state_of c.loop-rig.rig c.args.fates.now (g.W.Store.meaning c.loop-rig.wire) (g.R.Store.meaning c.loop-rig.resend) (g.K.Store.meaning c.loop-rig.keepalive) (take 64 c.loop-rig.table) in
-    let u : State = state_of c.step-once.new.rig c.args.fates.now (g.W.Store.meaning c.step-once.new.wire) (g.R.Store.meaning c.step-once.new.resend) (g.K.Store.meaning c.step-once.new.keepalive) (take 64 c.step-once.new.table) in
+    let u : State = state_of c.step_once.new.rig c.args.fates.now (g.W.Store.meaning c.step_once.new.wire) (g.R.Store.meaning c.step_once.new.resend) (g.K.Store.meaning c.step_once.new.keepalive) (take 64 c.step_once.new.table) in
     let i = c.loop-rig.invariant in
-    let e = c.step-once.ensures in
-    let k = c.in-ok-step-once.ensures.cases in
-    let on : goes_on t c.args.tick ≡ true = sym c.goes-on.ensures ∙ c.loop-rig-test.true in
+    let e = c.step_once.ensures in
+    let k = c.in_ok-step_once.ensures.cases in
+    let on : goes_on t c.args.tick ≡ true = sym c.goes_on.ensures ∙ c.loop-rig-test.true in
     let ok : is_ok (step_rule t).answer ≡ true = sym k.0 ∙ c.if-not-branch.false in (
-      accepted s (vec_items c.args.notes.now) c.args.tick t (vec_items c.loop-rig.notes) i.0 u (vec_items c.step-once.new.notes) on k.1 k.2 i.1 ok,
+      accepted s (vec_items c.args.notes.now) c.args.tick t (vec_items c.loop-rig.notes) i.0 u (vec_items c.step_once.new.notes) on k.1 k.2 i.1 ok,
       stays_ready t u i.1 k.1,
       e.later ∙ i.2,
       e.wire.0 ∙ i.3,
@@ -69,7 +69,7 @@ returns g c =
     let s : State = state_of c.args.rig.now c.args.fates.now (g.W.Store.meaning c.args.wire.now) (g.R.Store.meaning c.args.resend.now) (g.K.Store.meaning c.args.keepalive.now) (take 64 c.args.table.now) in
     let t : State = state_of c.loop-rig.rig c.args.fates.now (g.W.Store.meaning c.loop-rig.wire) (g.R.Store.meaning c.loop-rig.resend) (g.K.Store.meaning c.loop-rig.keepalive) (take 64 c.loop-rig.table) in
     let i = c.loop-rig.invariant in
-    let off : goes_on t c.args.tick ≡ false = sym c.goes-on.ensures ∙ c.loop-rig-test.false in
+    let off : goes_on t c.args.tick ≡ false = sym c.goes_on.ensures ∙ c.loop-rig-test.false in
     record {
       went = ended s (vec_items c.args.notes.now) c.args.tick t (vec_items c.loop-rig.notes) i.0 off;
       later = i.2;

@@ -22,8 +22,8 @@ put-requires g c =
     let n = c.enter-ticket.auto.rows in
     (omega arith, omega arith, omega (arith, c.requires.held.kept.few))
 
-pub sift-up-requires : goal.sift-up-requires
-sift-up-requires g c =
+pub sift_up-requires : goal.sift_up-requires
+sift_up-requires g c =
     let rows = c.args.rows.now in
     let l = c.args.ledger.now in
     let x = c.vacant-x.result in
@@ -41,15 +41,15 @@ returns g c =
     let d = some_row rows x xl in
     let o = open_says (meant rows l) c.args.deadline c.args.owner c.requires.allowed in
     let mid = c.enter-ticket.new.rows in
-    let end = c.sift-up.new.rows in
+    let end = c.sift_up.new.rows in
     let l' = c.enter-ticket.new.ledger in
-    let same = c.sift-up.ensures.contents ∙ c.put.ensures.contents in
+    let same = c.sift_up.ensures.contents ∙ c.put.ensures.contents in
     let u = entered_unsettled rows l c.requires.held x c.args.deadline c.args.owner c.args.payload xl c.vacant-x.ensures.1 o d c.enter-ticket.result mid c.put.new.rows c.enter-ticket.ensures.ticket (c.enter-ticket.ensures.rows d) c.put.ensures.contents c.put.ensures.cells c.put.ensures.places in
     record {
       ticket = c.enter-ticket.ensures.ticket;
       held = record {
         kept = same_kept mid end l' same c.enter-ticket.ensures.kept;
-        ordered = entered_ordered rows l c.requires.held end l.pending l'.pending (entered_count rows l c.requires.held mid l' c.args.deadline c.args.owner c.args.payload c.enter-ticket.ensures.kept c.enter-ticket.ensures.meant) (c.sift-up.ensures.sinking _ u);
+        ordered = entered_ordered rows l c.requires.held end l.pending l'.pending (entered_count rows l c.requires.held mid l' c.args.deadline c.args.owner c.args.payload c.enter-ticket.ensures.kept c.enter-ticket.ensures.meant) (c.sift_up.ensures.sinking _ u);
       };
       meant = same_meant mid end l' same ∙ c.enter-ticket.ensures.meant;
     }

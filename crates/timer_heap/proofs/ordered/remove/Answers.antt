@@ -9,7 +9,7 @@ swap-requires g c =
     let rows = c.args.rows.now in
     let l = c.args.ledger.now in
     let h = c.requires.held in
-    let e = c.position-of-gap.ensures in
+    let e = c.position_of-gap.ensures in
     let a = reach rows l.pending h.ordered.index _ (gap_below rows l h c.args.x c.requires.live.1 _ _ e refl) in
     let b = reach rows l.pending h.ordered.index _ (last_below rows l h c.args.x c.requires.live.1 _ _ e refl) in
     record { positions = (a.0, b.0, h.kept.few); rows = (a.1, b.1) }
@@ -29,7 +29,7 @@ leave-requires g c =
 pub settle-requires : goal.settle-requires
 settle-requires g c =
     let s = c.swap.ensures in
-    left_unsettled c.args.rows.now c.args.ledger.now c.requires.held c.args.x c.requires.live.1 _ _ c.position-of-gap.ensures refl c.swap.new.rows c.leave.new.rows s.cells s.places s.contents c.leave.ensures.rows c.if-gap-last.true
+    left_unsettled c.args.rows.now c.args.ledger.now c.requires.held c.args.x c.requires.live.1 _ _ c.position_of-gap.ensures refl c.swap.new.rows c.leave.new.rows s.cells s.places s.contents c.leave.ensures.rows c.if-gap-last.true
 
 pub returns-then-gap-last : goal.returns-then-gap-last
 returns-then-gap-last g c =
@@ -53,5 +53,5 @@ returns-else-gap-last g c =
     let l' = c.leave.new.ledger in
     let s = c.swap.ensures in
     let m = left_meant rows l c.requires.held c.args.x c.requires.live.1 c.swap.new.rows left l' s.contents c.leave.ensures.meant in
-    let o = left_ordered rows l c.requires.held c.args.x c.requires.live.1 _ _ c.position-of-gap.ensures refl c.swap.new.rows left s.cells s.places s.contents c.leave.ensures.rows c.if-gap-last.false in
+    let o = left_ordered rows l c.requires.held c.args.x c.requires.live.1 _ _ c.position_of-gap.ensures refl c.swap.new.rows left s.cells s.places s.contents c.leave.ensures.rows c.if-gap-last.false in
     record { held = left_held rows l c.requires.held c.args.x c.requires.live.1 left l' c.leave.ensures.kept m _ refl o; meant = m }

@@ -8,10 +8,10 @@ use Rattle.timer_heap.proofs.sift.rank.Goals as goal
 pub returns : goal.returns
 returns g c =
     let rows = c.args.rows.now in
-    let x = c.row-at.result in
-    let r = c.index-rows-row-at.result in
-    let l : x < length rows = omega (arith, c.requires.1, c.row-at.ensures) in
+    let x = c.row_at.result in
+    let r = c.index-rows-row_at.result in
+    let l : x < length rows = omega (arith, c.requires.1, c.row_at.ensures) in
     c.order.ensures
-    ∙ ap (λ (r : Row g.row.P.Denot). key (entry_of r)) c.index-rows-row-at.is
+    ∙ ap (λ (r : Row g.row.P.Denot). key (entry_of r)) c.index-rows-row_at.is
     ∙ sym (get_or-map (λ r. key (entry_of r)) rows x r 0 l)
-    ∙ ap (λ i. get_or (keys rows) i 0) c.row-at.ensures
+    ∙ ap (λ i. get_or (keys rows) i 0) c.row_at.ensures

@@ -9,12 +9,12 @@ pub returns-then-x-rows : goal.returns-then-x-rows
 returns-then-x-rows g c =
     list_empty c.args.rows.now c.args.at.now c.requires _ (head_link c.args.rows.now c.args.at.now c.requires _) c.if-x-rows.true
 
-pub returns-then-is-due : goal.returns-then-is-due
-returns-then-is-due g c =
+pub returns-then-is_due : goal.returns-then-is_due
+returns-then-is_due g c =
     list_due c.args.rows.now c.args.at.now c.requires _ (head_link c.args.rows.now c.args.at.now c.requires _) c.if-x-rows.false
-    (read_deadline c.args.rows.now _ c.index-rows-x.result c.index-rows-x.is c.if-x-rows.false ∙ eqb-true _ _ (sym c.is-due.ensures ∙ c.if-is-due.true))
+    (read_deadline c.args.rows.now _ c.index-rows-x.result c.index-rows-x.is c.if-x-rows.false ∙ eqb-true _ _ (sym c.is_due.ensures ∙ c.if-is_due.true))
 
-pub returns-else-is-due : goal.returns-else-is-due
-returns-else-is-due g c =
+pub returns-else-is_due : goal.returns-else-is_due
+returns-else-is_due g c =
     list_later c.args.rows.now c.args.at.now c.requires _ (head_link c.args.rows.now c.args.at.now c.requires _) c.if-x-rows.false
-    (λ e. eqb-false _ _ (sym c.is-due.ensures ∙ c.if-is-due.false) (sym (read_deadline c.args.rows.now _ c.index-rows-x.result c.index-rows-x.is c.if-x-rows.false) ∙ e))
+    (λ e. eqb-false _ _ (sym c.is_due.ensures ∙ c.if-is_due.false) (sym (read_deadline c.args.rows.now _ c.index-rows-x.result c.index-rows-x.is c.if-x-rows.false) ∙ e))

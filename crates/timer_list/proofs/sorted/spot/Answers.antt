@@ -13,11 +13,11 @@ overflow-cast-node g c =
     let b = node_small c.args.rows.now c.args.at.now c.requires c.loop-node.node c.loop-node.invariant.0 in
     search rules
 
-pub returns-then-is-after : goal.returns-then-is-after
-returns-then-is-after g c =
+pub returns-then-is_after : goal.returns-then-is_after
+returns-then-is_after g c =
     let l : c.loop-node.node < length c.args.rows.now = omega arith in
     let d = read_deadline c.args.rows.now c.loop-node.node c.index-rows-node.result c.index-rows-node.is l in
-    record { node = c.loop-node.invariant.0; before = c.loop-node.invariant.1; after = λ _. omega (arith, d, ltb-true c.args.deadline c.index-rows-node.result.deadline (sym c.is-after.ensures ∙ c.if-is-after.true)) }
+    record { node = c.loop-node.invariant.0; before = c.loop-node.invariant.1; after = λ _. omega (arith, d, ltb-true c.args.deadline c.index-rows-node.result.deadline (sym c.is_after.ensures ∙ c.if-is_after.true)) }
 
 pub loop-node-smaller : goal.loop-node-smaller
 loop-node-smaller g c =
@@ -29,7 +29,7 @@ pub loop-node-preserved : goal.loop-node-preserved
 loop-node-preserved g c =
     let l : c.loop-node.node < length c.args.rows.now = omega arith in
     let d = read_deadline c.args.rows.now c.loop-node.node c.index-rows-node.result c.index-rows-node.is l in
-    let w : c.index-rows-node.result.deadline ≤ c.args.deadline = ltb-false c.args.deadline c.index-rows-node.result.deadline (sym c.is-after.ensures ∙ c.if-is-after.false) in
+    let w : c.index-rows-node.result.deadline ≤ c.args.deadline = ltb-false c.args.deadline c.index-rows-node.result.deadline (sym c.is_after.ensures ∙ c.if-is_after.false) in
     spot_step c.args.rows.now c.args.at.now c.requires c.loop-node.node c.args.deadline l c.loop-node.invariant.0 _
     (read_next c.args.rows.now c.loop-node.node c.index-rows-node.result c.index-rows-node.is l c.args.at.now.ends)
     (omega (arith, d))

@@ -4,26 +4,26 @@ use Rattle.timer_rows.specs.Rows.{meant}
 use Rattle.timer_rows.proofs.Keeping.{check_none}
 use Rattle.timer_rows.proofs.entries.check.Goals as goal
 
-pub returns-then-is-past : goal.returns-then-is-past
-returns-then-is-past g c =
-    check_past (meant c.args.rows.now c.args.ledger.now) c.args.deadline c.args.owner (sym c.is-past.ensures ∙ c.if-is-past.true)
+pub returns-then-is_past : goal.returns-then-is_past
+returns-then-is_past g c =
+    check_past (meant c.args.rows.now c.args.ledger.now) c.args.deadline c.args.owner (sym c.is_past.ensures ∙ c.if-is_past.true)
 
-pub returns-then-is-late : goal.returns-then-is-late
-returns-then-is-late g c =
-    check_late (meant c.args.rows.now c.args.ledger.now) c.args.deadline c.args.owner (sym c.is-past.ensures ∙ c.if-is-past.false) (sym c.is-late.ensures ∙ c.if-is-late.true)
+pub returns-then-is_late : goal.returns-then-is_late
+returns-then-is_late g c =
+    check_late (meant c.args.rows.now c.args.ledger.now) c.args.deadline c.args.owner (sym c.is_past.ensures ∙ c.if-is_past.false) (sym c.is_late.ensures ∙ c.if-is_late.true)
 
 pub returns-then-owner-gt63 : goal.returns-then-owner-gt63
 returns-then-owner-gt63 g c =
-    check_owner (meant c.args.rows.now c.args.ledger.now) c.args.deadline c.args.owner (sym c.is-past.ensures ∙ c.if-is-past.false) (sym c.is-late.ensures ∙ c.if-is-late.false) (omega arith)
+    check_owner (meant c.args.rows.now c.args.ledger.now) c.args.deadline c.args.owner (sym c.is_past.ensures ∙ c.if-is_past.false) (sym c.is_late.ensures ∙ c.if-is_late.false) (omega arith)
 
-pub returns-then-is-spent : goal.returns-then-is-spent
-returns-then-is-spent g c =
-    check_spent (meant c.args.rows.now c.args.ledger.now) c.args.deadline c.args.owner (sym c.is-past.ensures ∙ c.if-is-past.false) (sym c.is-late.ensures ∙ c.if-is-late.false) (omega arith) (sym c.is-spent.ensures ∙ c.if-is-spent.true)
+pub returns-then-is_spent : goal.returns-then-is_spent
+returns-then-is_spent g c =
+    check_spent (meant c.args.rows.now c.args.ledger.now) c.args.deadline c.args.owner (sym c.is_past.ensures ∙ c.if-is_past.false) (sym c.is_late.ensures ∙ c.if-is_late.false) (omega arith) (sym c.is_spent.ensures ∙ c.if-is_spent.true)
 
 pub returns-then-ledger-rows : goal.returns-then-ledger-rows
 returns-then-ledger-rows g c =
-    check_full (meant c.args.rows.now c.args.ledger.now) c.args.deadline c.args.owner (sym c.is-past.ensures ∙ c.if-is-past.false) (sym c.is-late.ensures ∙ c.if-is-late.false) (omega arith) (sym c.is-spent.ensures ∙ c.if-is-spent.false) (sym c.requires.sized ∙ c.if-ledger-rows.true)
+    check_full (meant c.args.rows.now c.args.ledger.now) c.args.deadline c.args.owner (sym c.is_past.ensures ∙ c.if-is_past.false) (sym c.is_late.ensures ∙ c.if-is_late.false) (omega arith) (sym c.is_spent.ensures ∙ c.if-is_spent.false) (sym c.requires.sized ∙ c.if-ledger-rows.true)
 
 pub returns-else-ledger-rows : goal.returns-else-ledger-rows
 returns-else-ledger-rows g c =
-    check_none c.args.rows.now c.args.ledger.now c.requires c.args.deadline c.args.owner (sym c.is-past.ensures ∙ c.if-is-past.false) (sym c.is-late.ensures ∙ c.if-is-late.false) (omega arith) (sym c.is-spent.ensures ∙ c.if-is-spent.false) (λ e. omega (arith, e))
+    check_none c.args.rows.now c.args.ledger.now c.requires c.args.deadline c.args.owner (sym c.is_past.ensures ∙ c.if-is_past.false) (sym c.is_late.ensures ∙ c.if-is_late.false) (omega arith) (sym c.is_spent.ensures ∙ c.if-is_spent.false) (λ e. omega (arith, e))

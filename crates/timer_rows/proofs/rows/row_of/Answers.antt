@@ -14,4 +14,4 @@ pub returns-then-ticket-eq0 : goal.returns-then-ticket-eq0
 returns-then-ticket-eq0 g c = missing c.args.ticket c.args.rows.now (λ i l n e. n (e ∙ c.if-ticket-eq0.true))
 
 pub returns-else-ticket-eq0 : goal.returns-else-ticket-eq0
-returns-else-ticket-eq0 g c = sought c.args.rows.now c.args.ticket _ c.if-ticket-eq0.false c.seek-from.ensures
+returns-else-ticket-eq0 g c = sought c.args.rows.now c.args.ticket _ c.if-ticket-eq0.false c.seek_from.ensures

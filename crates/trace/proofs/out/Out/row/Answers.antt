@@ -6,6 +6,6 @@ pub returns : goal.returns
 returns c =
     record {
       adds = then c.number.ensures.adds (then c.letter_field.ensures.adds (then c.number_field.ensures.adds
-          (then c.option_field.ensures.adds (then c.option-field-2.ensures.adds (then c.packet_fields.ensures.adds c.byte.ensures)))));
+          (then c.option_field.ensures.adds (then c.option_field-2.ensures.adds (then c.packet_fields.ensures.adds c.byte.ensures)))));
       short = omega arith;
     }

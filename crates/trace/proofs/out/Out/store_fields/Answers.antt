@@ -12,6 +12,6 @@ returns-in-Some c =
 pub returns-in-None : goal.returns-in-None
 returns-in-None c =
     record {
-      adds = rw c.in-None.is (then c.no-field.ensures.adds c.no-field-in-None.ensures.adds);
+      adds = rw c.in-None.is (then c.no_field.ensures.adds c.no_field-in-None.ensures.adds);
       short = omega arith;
     }

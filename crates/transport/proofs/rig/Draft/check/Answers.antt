@@ -6,18 +6,18 @@ pub returns-in-default : goal.returns-in-default
 returns-in-default g c =
     record { value = setting_told _ _ _ _ _ _ (unset _ _ c.in-default.ensures); room = tt; fits = tt }
 
-pub returns-then-any-apart : goal.returns-then-any-apart
-returns-then-any-apart g c =
+pub returns-then-any_apart : goal.returns-then-any_apart
+returns-then-any_apart g c =
     record {
-      value = clocks_told _ _ _ _ _ _ (is_set _ _ _ c.in-Some.ensures).0 c.if-any-apart.ensures;
+      value = clocks_told _ _ _ _ _ _ (is_set _ _ _ c.in-Some.ensures).0 c.if-any_apart.ensures;
       room = tt;
       fits = tt;
     }
 
-pub returns-then-any-used : goal.returns-then-any-used
-returns-then-any-used g c =
+pub returns-then-any_used : goal.returns-then-any_used
+returns-then-any_used g c =
     record {
-      value = used_told _ _ _ _ _ _ (is_set _ _ _ c.in-Some.ensures).0 c.if-any-apart.ensures c.if-any-used.ensures;
+      value = used_told _ _ _ _ _ _ (is_set _ _ _ c.in-Some.ensures).0 c.if-any_apart.ensures c.if-any_used.ensures;
       room = tt;
       fits = tt;
     }
@@ -25,7 +25,7 @@ returns-then-any-used g c =
 pub returns-then-brief : goal.returns-then-brief
 returns-then-brief g c =
     record {
-      value = span_told _ _ _ _ _ _ (is_set _ _ _ c.in-Some.ensures).0 c.if-any-apart.ensures c.if-any-used.ensures c.if-brief.ensures.value;
+      value = span_told _ _ _ _ _ _ (is_set _ _ _ c.in-Some.ensures).0 c.if-any_apart.ensures c.if-any_used.ensures c.if-brief.ensures.value;
       room = tt;
       fits = tt;
     }
@@ -33,7 +33,7 @@ returns-then-brief g c =
 pub returns-then-records-lt-CHANNELS : goal.returns-then-records-lt-CHANNELS
 returns-then-records-lt-CHANNELS g c =
     record {
-      value = table_told _ _ _ _ _ _ (is_set _ _ _ c.in-Some.ensures).0 c.if-any-apart.ensures c.if-any-used.ensures c.if-brief.ensures.value c.if-records-lt-CHANNELS.true;
+      value = table_told _ _ _ _ _ _ (is_set _ _ _ c.in-Some.ensures).0 c.if-any_apart.ensures c.if-any_used.ensures c.if-brief.ensures.value c.if-records-lt-CHANNELS.true;
       room = tt;
       fits = tt;
     }
@@ -42,7 +42,7 @@ pub returns : goal.returns
 returns g c =
     let s = is_set _ _ _ c.in-Some.ensures in
     record {
-      value = ap Ok s.1 ∙ none_told _ _ _ _ _ _ s.0 c.if-any-apart.ensures c.if-any-used.ensures c.if-brief.ensures.value c.if-records-lt-CHANNELS.false;
+      value = ap Ok s.1 ∙ none_told _ _ _ _ _ _ s.0 c.if-any_apart.ensures c.if-any_used.ensures c.if-brief.ensures.value c.if-records-lt-CHANNELS.false;
       room = c.if-records-lt-CHANNELS.false;
       fits = c.brief.ensures.fits;
     }
