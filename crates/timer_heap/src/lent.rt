@@ -29,7 +29,7 @@ pub(crate) fn empty<P: Copy>(rows: &mut [Row<P>], first: u32, last: u32) -> Ledg
 pub(crate) fn due<P: Copy>(rows: &[Row<P>], ledger: &Ledger) -> bool
     requires kept { ∥ Kept (used rows.now) ledger.now ∥₁ }
     requires ordered { ∥ Ordered (used rows.now) ledger.now.pending ∥₁ }
-    ensures { result ≡ due_rule (meant (used rows.now) ledger.now) }
+    ensures { result ≡ due_rule (meant (used rows.now) ledger.entry.now) }
 {
     let n = capacity(rows);
     ordered::due(&rows[0..n], ledger)

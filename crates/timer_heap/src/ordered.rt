@@ -52,7 +52,7 @@ pub(crate) fn remove<P: Copy>(rows: &mut [Row<P>], ledger: &mut Ledger, x: usize
 // The row whose entry comes first, with the entry's deadline.
 pub(crate) fn first<P: Copy>(rows: &[Row<P>], ledger: &Ledger) -> Option<(usize, u32)>
     requires { Held rows.now ledger.now }
-    ensures { MatchOption result (NoneDue ledger.now.now rows.now) (λ f. First ledger.now.now rows.now f.0 f.1) }
+    ensures { MatchOption result (NoneDue ledger.entry.now.now rows.now) (λ f. First ledger.entry.now.now rows.now f.0 f.1) }
 {
     if ledger.pending == 0 {
         return None;
@@ -64,7 +64,7 @@ pub(crate) fn first<P: Copy>(rows: &[Row<P>], ledger: &Ledger) -> Option<(usize,
 // The row of the due entry with the lowest ticket: the first entry's, if that is due.
 pub(crate) fn first_due<P: Copy>(rows: &[Row<P>], ledger: &Ledger) -> Option<usize>
     requires { Held rows.now ledger.now }
-    ensures { MatchOption result (NoneDue ledger.now.now rows.now) (λ x. Foremost ledger.now.now rows.now x) }
+    ensures { MatchOption result (NoneDue ledger.entry.now.now rows.now) (λ x. Foremost ledger.entry.now.now rows.now x) }
 {
     let (x, deadline) = first(rows, ledger)?;
     if deadline == ledger.now {
@@ -77,7 +77,7 @@ pub(crate) fn first_due<P: Copy>(rows: &[Row<P>], ledger: &Ledger) -> Option<usi
 // Whether an entry is due.
 pub(crate) fn due<P: Copy>(rows: &[Row<P>], ledger: &Ledger) -> bool
     requires { Held rows.now ledger.now }
-    ensures { result ≡ due_rule (meant rows.now ledger.now) }
+    ensures { result ≡ due_rule (meant rows.now ledger.entry.now) }
 {
     match first_due(rows, ledger) {
         Some(_) => true,

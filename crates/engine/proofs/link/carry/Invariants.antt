@@ -8,9 +8,9 @@ use Rattle.engine.proofs.link.carry.Given as goal
 abbrev pub invariant-loop-copy : goal.invariant-loop-copy
 invariant-loop-copy g l =
     let m = g.W.Store.meaning l.initial.wire in
-    let k : Carried = carried l.-copy m (stop (m.now + fate_delay l.fate)) l.owner l.packet in
+    let k : Carried = carried l._copy m (stop (m.now + fate_delay l.fate)) l.owner l.packet in
     (g.W.Store.meaning l.wire ≡ k.after)
     × (l.accepted ≡ k.copies)
-    × (l.accepted ≤ l.-copy)
+    × (l.accepted ≤ l._copy)
     × (g.W.Store.lenders l.wire ≡ g.W.Store.lenders l.initial.wire)
     × (g.W.Store.beyond l.wire ≡ g.W.Store.beyond l.initial.wire)

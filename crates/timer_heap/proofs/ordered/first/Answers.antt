@@ -12,8 +12,8 @@ row_at-x-requires g c =
     let ne = c.if-ledger-eq0.false in
     (reach c.args.rows.now c.args.ledger.now.pending c.requires.ordered.index 0 (omega arith)).0
 
-pub offset-bounds-rows-x : goal.offset-bounds-rows-x
-offset-bounds-rows-x g c =
+pub offset_bounds-rows-x : goal.offset_bounds-rows-x
+offset_bounds-rows-x g c =
     let ne = c.if-ledger-eq0.false in
     let l = (top_row c.args.rows.now c.args.ledger.now c.requires c.row_at-x.result (omega arith) c.row_at-x.ensures).1 in
     omega arith

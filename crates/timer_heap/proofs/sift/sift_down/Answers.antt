@@ -22,4 +22,4 @@ loop-child-preserved g c =
 pub returns : goal.returns
 returns g c =
     let l = c.loop-child in
-    record { contents = l.invariant.0; ordered = stays_down l.rows l.i c.args.count c.in-default.ensures l.invariant.1 }
+    record { contents = l.invariant.0; ordered = stays_down l.rows l.i c.args.count c.in_default.ensures l.invariant.1 }

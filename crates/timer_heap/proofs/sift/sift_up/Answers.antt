@@ -30,5 +30,5 @@ returns g c =
       contents = l.invariant.0;
       sinking = λ k h.
           let u = l.invariant.1 k h in
-          stays_up l.rows l.i k c.args.start h.inside c.in-default.ensures u.0 u.1;
+          stays_up l.rows l.i k c.args.start h.inside c.in_default.ensures u.0 u.1;
     }

@@ -8,8 +8,8 @@ pub loop-node-init : goal.loop-node-init
 loop-node-init g c =
     spot_begin c.args.rows.now c.args.at.now c.requires _ c.args.deadline (head_link c.args.rows.now c.args.at.now c.requires _)
 
-pub overflow-cast-node : goal.overflow-cast-node
-overflow-cast-node g c =
+pub overflow_cast-node : goal.overflow_cast-node
+overflow_cast-node g c =
     let b = node_small c.args.rows.now c.args.at.now c.requires c.loop-node.node c.loop-node.invariant.0 in
     search rules
 

@@ -8,6 +8,6 @@ pour-requires g c =
     let t = turn_comes (c.args.tick + 1) c.in-Some.slot c.in-Some.ensures in
     record { waiting = c.requires.waiting; slots = c.requires.slots; turn = (c.requires.before, t.0, t.1) }
 
-pub returns-in-default : goal.returns-in-default
-returns-in-default g c =
-    record { slots = still c.args.tick c.args.rows.now c.args.ends.now (no_turn (c.args.tick + 1) c.in-default.ensures) c.requires.slots; contents = refl }
+pub returns-in_default : goal.returns-in_default
+returns-in_default g c =
+    record { slots = still c.args.tick c.args.rows.now c.args.ends.now (no_turn (c.args.tick + 1) c.in_default.ensures) c.requires.slots; contents = refl }

@@ -2,9 +2,9 @@ use Rattle.std.proofs.Common.{Ok, ap, ◌∙◌}
 use Rattle.transport.proofs.Drafts.{unset, is_set, setting_told, clocks_told, used_told, span_told, table_told, none_told}
 use Rattle.transport.proofs.rig.Draft.check.Goals as goal
 
-pub returns-in-default : goal.returns-in-default
-returns-in-default g c =
-    record { value = setting_told _ _ _ _ _ _ (unset _ _ c.in-default.ensures); room = tt; fits = tt }
+pub returns-in_default : goal.returns-in_default
+returns-in_default g c =
+    record { value = setting_told _ _ _ _ _ _ (unset _ _ c.in_default.ensures); room = tt; fits = tt }
 
 pub returns-then-any_apart : goal.returns-then-any_apart
 returns-then-any_apart g c =
