@@ -44,7 +44,7 @@ fn print_notes(rt: &HostRuntime, notes: &[Note]) -> anyhow::Result<()> {
     for note in notes {
         match note.effect {
             Effect::Advanced => {}
-            _ => print!(rt, "{note}")?,
+            _ => print!(rt; "{note}")?,
         }
     }
     Ok(())
@@ -54,7 +54,7 @@ fn print_notes(rt: &HostRuntime, notes: &[Note]) -> anyhow::Result<()> {
 fn print_limited(rt: &HostRuntime, notes: &[Note]) -> anyhow::Result<()> {
     for note in notes {
         match note.effect {
-            Effect::Refused(_, 6) => print!(rt, "{note}")?,
+            Effect::Refused(_, 6) => print!(rt; "{note}")?,
             _ => {}
         }
     }
