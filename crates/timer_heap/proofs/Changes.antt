@@ -1,5 +1,5 @@
 -- The heap when an entry comes or goes, and its first entry.
-use Rattle.std.proofs.Common.{◌≡◌, ℕ, suc, ◌+◌, ◌-◌, ◌*◌, ◌<◌, ◌≤◌, ◌≢◌, List, [], ◌∷◌, ◌++◌, map, length, get_or, set, sym, refl, ap, ◌∙◌, subst, arith}
+use Rattle.std.proofs.Common.{◌≡◌, ℕ, ◌+◌, ◌-◌, ◌*◌, ◌<◌, ◌≤◌, ◌≢◌, List, [], ◌∷◌, length, get_or, set, sym, refl, ap, ◌∙◌, subst, arith}
 use Rattle.std.proofs.lemmas.List.{length-append, length-map, length-set, map-set, get_or-map, get_or-set_other}
 use Rattle.timer.specs.Meaning.{Meaning}
 use Rattle.timer.specs.Rules.{entered, with_pending, without}
@@ -7,7 +7,7 @@ use Rattle.timer.proofs.Checks.{Open}
 use Rattle.timer_rows.specs.declared.row.Row.{Row}
 use Rattle.timer_rows.specs.declared.ledger.Ledger.{Ledger}
 use Rattle.timer_rows.specs.Kept.{Kept}
-use Rattle.timer_rows.specs.Rows.{tickets, deadlines, nexts, prevs, contents, entry_of, entries, listed, filled, vacated, meant, NoneDue, Foremost}
+use Rattle.timer_rows.specs.Rows.{tickets, deadlines, nexts, prevs, contents, entry_of, entries, listed, filled, vacated, meant, NoneDue}
 use Rattle.timer_rows.proofs.Columns.{column_same}
 use Rattle.timer_rows.proofs.Moves.{some_row}
 use Rattle.timer_rows.proofs.Pending.{entries_find, entries_most, length_without, live_row}

@@ -1,9 +1,8 @@
 -- A new list: every row that it uses is vacant, and the sentinel leads to itself.
-use Rattle.std.proofs.Common.{◌≡◌, ℕ, ◌+◌, ◌-◌, ◌<◌, ◌≤◌, min, cond, List, [], ◌∷◌, ◌++◌, map, length, get_or, take, replicate, sym, refl, ap, ◌∙◌, subst, arith}
+use Rattle.std.proofs.Common.{◌≡◌, ℕ, ◌+◌, ◌-◌, ◌<◌, min, cond, List, [], ◌∷◌, ◌++◌, length, get_or, take, replicate, sym, refl, ap, ◌∙◌, subst, arith}
 use borrow.Rule.Slice.PartMut.{post_of}
 use Rattle.std.proofs.lemmas.List.{length-append, length-map, length-take-le}
 use Rattle.std.proofs.lemmas.Bool.{eq-eqb}
-use Rattle.timer.specs.Meaning.{Meaning}
 use Rattle.timer_rows.specs.declared.row.Row.{Row}
 use Rattle.timer_rows.specs.declared.ends.Ends.{Ends}
 use Rattle.timer_rows.specs.declared.ledger.Ledger.{Ledger}
@@ -13,7 +12,7 @@ use Rattle.timer_rows.proofs.Moves.{linked_none}
 use Rattle.timer_rows.proofs.Parts.{part_used, used_after, used_both}
 use Rattle.timer_rows.proofs.Pending.{entries_none}
 use Rattle.timer_rows.proofs.Same.{new_kept}
-use Rattle.timer_list.specs.Sorted.{home, key, homes, keys, Sorted}
+use Rattle.timer_list.specs.Sorted.{key, homes, keys, Sorted}
 use Rattle.timer_list.proofs.Spots.{home_at, sentinel_home}
 
 module _ {P : Type 0} (rows ys : List (Row P)) (n : ℕ) (is : n ≡ min (length rows) 4096) (same : length ys ≡ length (take (n - 0) rows)) (vacant : (i : ℕ) → get_or (tickets ys) i 0 ≡ 0) where

@@ -1,5 +1,5 @@
 -- A call over the rows that are used, seen from all the rows that were lent.
-use Rattle.std.proofs.Common.{◌≡◌, ℕ, ◌-◌, min, List, [], ◌∷◌, ◌++◌, length, take, sym, ap, subst}
+use Rattle.std.proofs.Common.{◌≡◌, ℕ, ◌-◌, min, List, ◌++◌, length, take, sym, subst}
 use borrow.Rule.Slice.PartMut.{post_of}
 use Rattle.timer.specs.Meaning.{Meaning}
 use Rattle.timer.specs.Rules.{Outcome}

@@ -1,13 +1,12 @@
 -- The list when an entry comes or goes, and its first row.
-use Rattle.std.proofs.Common.{◌≡◌, ℕ, ◌+◌, ◌*◌, ◌<◌, ◌≤◌, cond, eqb, ◌≢◌, List, [], ◌∷◌, length, get_or, set, sym, refl, ap, ◌∙◌, subst, arith}
+use Rattle.std.proofs.Common.{◌≡◌, ℕ, ◌+◌, ◌*◌, ◌<◌, ◌≤◌, cond, eqb, ◌≢◌, List, [], ◌∷◌, length, get_or, set, sym, refl, ap, ◌∙◌, arith}
 use Rattle.std.proofs.lemmas.Bool.{ne_eqb, eq-eqb}
 use Rattle.timer.proofs.Checks.{Open}
 use Rattle.timer_rows.specs.declared.row.Row.{Row}
 use Rattle.timer_rows.specs.declared.ends.Ends.{Ends}
 use Rattle.timer_rows.specs.Links.{ons, backs}
-use Rattle.timer_rows.specs.Rows.{tickets, deadlines, contents, entry_of, filled, vacated, meant, NoneDue, Foremost}
-use Rattle.timer_rows.proofs.Columns.{column_length}
-use Rattle.timer_rows.proofs.Linking.{First, first, node_below}
+use Rattle.timer_rows.specs.Rows.{tickets, deadlines, contents, filled, vacated, meant, NoneDue, Foremost}
+use Rattle.timer_rows.proofs.Linking.{first, node_below}
 use Rattle.timer_rows.proofs.Moves.{some_row, slots_enter, slots_leave}
 use Rattle.timer_rows.proofs.Pending.{live_row}
 use Rattle.timer_list.specs.declared.state.State.{State}

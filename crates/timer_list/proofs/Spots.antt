@@ -1,15 +1,15 @@
 -- The way along the list to the place of a deadline.
-use Rattle.std.proofs.Common.{◌≡◌, ℕ, zero, suc, ◌+◌, ◌-◌, ◌*◌, ◌^◌, ◌<◌, ◌≤◌, cond, eqb, ◌≢◌, List, [], ◌∷◌, ◌++◌, map, length, get_or, sym, refl, ap, ◌∙◌, subst, ⊎_elim, arith}
+use Rattle.std.proofs.Common.{◌≡◌, ℕ, zero, suc, ◌+◌, ◌-◌, ◌*◌, ◌<◌, ◌≤◌, cond, eqb, ◌≢◌, List, [], ◌∷◌, map, length, get_or, sym, refl, ap, ◌∙◌, ⊎_elim, arith}
 use Rattle.std.proofs.lemmas.List.{get_or_at, get_or_default, get_or_past, length-map}
-use Rattle.std.proofs.lemmas.Bool.{cases_eq, cases_lt, eq-eqb, ne_eqb}
+use Rattle.std.proofs.lemmas.Bool.{cases_lt, eq-eqb, ne_eqb}
 use Rattle.timer_rows.specs.declared.row.Row.{Row}
 use Rattle.timer_rows.specs.declared.ends.Ends.{Ends}
-use Rattle.timer_rows.specs.Links.{ons, backs, Linked}
+use Rattle.timer_rows.specs.Links.{ons, backs}
 use Rattle.timer_rows.specs.Rows.{tickets, deadlines, entry_of}
-use Rattle.timer_rows.proofs.Columns.{row_link, end_link, column_length}
+use Rattle.timer_rows.proofs.Columns.{end_link, column_length}
 use Rattle.timer_rows.proofs.Linking.{node_below}
 use Rattle.timer_list.specs.declared.state.State.{State}
-use Rattle.timer_list.specs.Sorted.{home, key, homes, keys, top, Sorted, Held, Spot}
+use Rattle.timer_list.specs.Sorted.{home, key, homes, keys, top, Held}
 
 -- the columns at a row
 pub home_at : {P : Type 0} (rows : List (Row P)) (i : ℕ) → i < length rows → get_or (homes rows) i 1 ≡ cond (eqb (get_or (tickets rows) i 0) 0) 1 0

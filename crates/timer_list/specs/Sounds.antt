@@ -1,5 +1,5 @@
 -- What a sorted list means is sound.
-use Rattle.std.specs.Prelude.{ℕ, List, length}
+use Rattle.std.specs.Prelude.{List}
 use Rattle.timer.specs.Meaning.{Sound}
 use Rattle.timer_rows.specs.declared.row.Row.{Row}
 use Rattle.timer_rows.specs.Kept.{Kept}

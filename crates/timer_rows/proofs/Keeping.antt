@@ -1,14 +1,13 @@
 -- What a store keeps true stays true when a row takes in an entry or gives one up.
-use Rattle.std.proofs.Common.{◌≡◌, ℕ, zero, suc, ◌+◌, ◌-◌, ◌^◌, ◌<◌, ◌≤◌, false, cond, eqb, ltb, leb, ◌≢◌, ◌⊎◌, List, [], ◌∷◌, ◌++◌, map, length, get_or, set, replicate, Some, None, sym, refl, ap, ◌∙◌, subst, inl, inr, ⊎_elim, arith}
-use Rattle.std.proofs.lemmas.List.{get_or-map, get_or-replicate, get_or-set_same, get_or-set_other, length-map, length_push, length-replicate, length-set, map-set}
-use Rattle.std.proofs.lemmas.Bool.{cases_eq}
+use Rattle.std.proofs.Common.{◌≡◌, ℕ, ◌+◌, ◌-◌, ◌^◌, ◌<◌, false, eqb, ltb, leb, ◌≢◌, ◌⊎◌, List, [], ◌∷◌, ◌++◌, map, length, get_or, set, Some, None, sym, ap, ◌∙◌, subst, ⊎_elim, arith}
+use Rattle.std.proofs.lemmas.List.{get_or-map, get_or-replicate, get_or-set_same, length-map, length_push, length-set, map-set}
 use Rattle.std.proofs.lemmas.Bool.Decides.{nat_tests}
 use Rattle.timer.specs.Meaning.{Entry}
 use Rattle.timer.specs.Rules.{count, find, without, check_rule, entered, with_pending}
-use Rattle.timer.proofs.Checks.{Open, open_says, check_open}
+use Rattle.timer.proofs.Checks.{Open, check_open}
 use Rattle.timer_rows.specs.declared.row.Row.{Row}
 use Rattle.timer_rows.specs.declared.ledger.Ledger.{Ledger}
-use Rattle.timer_rows.specs.Rows.{tickets, deadlines, owners, entry_of, entries, meant}
+use Rattle.timer_rows.specs.Rows.{tickets, entry_of, entries, meant}
 use Rattle.timer_rows.specs.Counts.{raised, lowered}
 use Rattle.timer_rows.specs.Kept.{Kept}
 use Rattle.timer_rows.proofs.Columns.{column_same, set_cases}

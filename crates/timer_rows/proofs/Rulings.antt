@@ -1,11 +1,9 @@
 -- What the rules say of a store, from what was found in its rows.
-use Rattle.std.proofs.Common.{◌≡◌, ℕ, ◌<◌, Bool, true, false, cond, eqb, ◌≢◌, List, [], ◌∷◌, length, get_or, is_some, Some, None, Ok, Err, Option, Result, sym, refl, ap, ◌∙◌}
+use Rattle.std.proofs.Common.{◌≡◌, ℕ, ◌<◌, Bool, true, false, cond, eqb, ◌≢◌, List, [], length, get_or, is_some, Some, None, Ok, Err, sym, refl, ap, ◌∙◌}
 use Rattle.std.proofs.lemmas.Bool.{eq-eqb, ne_eqb}
-use Rattle.timer.specs.declared.expired.Expired.{Expired}
 use Rattle.timer.specs.declared.fault.TimerFault.{TimerFault}
 use Rattle.timer.specs.declared.fault.TimerFault.TheVariants.{Missing, Due, Ended}
-use Rattle.timer.specs.Meaning.{Entry, Meaning}
-use Rattle.timer.specs.Rules.{Outcome, Started, Stopped, Fired, find, due_entry, without, with_pending, expired, refused, stopped, stop_rule, taken, take_rule, ticked, due_rule, advance_rule, started, start_rule, check_rule, entered}
+use Rattle.timer.specs.Rules.{find, without, with_pending, refused, stopped, stop_rule, taken, take_rule, ticked, due_rule, advance_rule, started, start_rule, check_rule}
 use Rattle.timer_rows.specs.declared.row.Row.{Row}
 use Rattle.timer_rows.specs.declared.ledger.Ledger.{Ledger}
 use Rattle.timer_rows.specs.Counts.{ticked_ledger}

@@ -1,4 +1,4 @@
-use Rattle.std.proofs.Common.{◌≡◌, refl, arith}
+use Rattle.std.proofs.Common.{refl, arith}
 use Rattle.std.proofs.lemmas.List.{ext_get_or}
 use Rattle.journal.specs.declared.note.Effect.TheVariants.{Started}
 use Rattle.journal.proofs.compare.agree.Goals as goal

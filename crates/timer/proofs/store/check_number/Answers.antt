@@ -1,4 +1,4 @@
-use Rattle.std.proofs.Common.{sym, ap, ◌∙◌}
+use Rattle.std.proofs.Common.{ap, ◌∙◌}
 use Rattle.timer.specs.Faults.{checked_number}
 use Rattle.timer.proofs.Checks.{check_lowest}
 use Rattle.timer.proofs.store.check_number.Goals as goal

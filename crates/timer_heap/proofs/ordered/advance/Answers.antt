@@ -1,4 +1,4 @@
-use Rattle.std.proofs.Common.{◌≡◌, true, false, cond, eqb, sym, ap, ◌∙◌, subst}
+use Rattle.std.proofs.Common.{true, false, cond, eqb, sym, ap, ◌∙◌, subst}
 use Rattle.timer_rows.specs.declared.ledger.Ledger.{Ledger}
 use Rattle.timer_rows.specs.Counts.{ticked_ledger}
 use Rattle.timer_rows.specs.Kept.{Kept}

@@ -3,7 +3,7 @@ use Rattle.timer.proofs.Checks.{open_says}
 use Rattle.timer_rows.specs.Rows.{meant}
 use Rattle.timer_rows.proofs.Moves.{some_row}
 use Rattle.timer_rows.proofs.Same.{same_kept, same_meant}
-use Rattle.timer_heap.proofs.Changes.{end_inside, mid_long, entered_unsettled, entered_ordered, entered_count}
+use Rattle.timer_heap.proofs.Changes.{end_inside, entered_unsettled, entered_ordered, entered_count}
 use Rattle.timer_heap.proofs.ordered.insert.Goals as goal
 
 pub vacant-x-requires : goal.vacant-x-requires

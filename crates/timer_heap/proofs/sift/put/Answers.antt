@@ -1,4 +1,4 @@
-use Rattle.std.proofs.Common.{set, refl, ap, ◌∙◌, arith}
+use Rattle.std.proofs.Common.{set, refl, ap, ◌∙◌}
 use Rattle.std.proofs.lemmas.List.{length-set, map-set}
 use Rattle.timer_rows.specs.Rows.{entry_of}
 use Rattle.timer_rows.proofs.Columns.{column_same}

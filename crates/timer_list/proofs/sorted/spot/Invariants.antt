@@ -1,4 +1,4 @@
-use Rattle.std.proofs.Common.{◌≡◌, ◌+◌, ◌-◌, ◌*◌, ◌<◌, ◌≤◌, length, get_or}
+use Rattle.std.proofs.Common.{◌≡◌, ◌-◌, ◌<◌, ◌≤◌, length, get_or}
 use Rattle.timer_rows.specs.Links.{backs}
 use Rattle.timer_rows.specs.Rows.{deadlines}
 use Rattle.timer_list.specs.Sorted.{homes, keys, top}

@@ -1,4 +1,4 @@
-use Rattle.std.proofs.Common.{◌≡◌, set, refl, ap, ◌∙◌}
+use Rattle.std.proofs.Common.{set, ap, ◌∙◌}
 use Rattle.std.proofs.lemmas.List.{get_or_default}
 use Rattle.timer.proofs.Checks.{open_says}
 use Rattle.timer_rows.specs.declared.row.Row.{Row}

@@ -1,4 +1,4 @@
-use Rattle.std.proofs.Common.{◌≡◌, ◌<◌, length, sym, ◌∙◌, arith, below_more}
+use Rattle.std.proofs.Common.{◌<◌, length, sym, ◌∙◌, arith, below_more}
 use Rattle.std.proofs.lemmas.List.{get_or-map}
 use Rattle.timer_rows.proofs.rows.seek.Goals as goal
 
