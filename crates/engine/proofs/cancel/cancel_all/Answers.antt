@@ -17,9 +17,9 @@ cancel_more m n ps i h a =
 pub loop-place-preserved : goal.loop-place-preserved
 loop-place-preserved g c =
     let inv = c.loop-place.invariant in
-    let e = c.place_cancelled.ensures in
+    let e = c.cancel_place.ensures in
     let h : c.loop-place.place-index < length c.args.places = search rules in (
-      cancel_more (g.R.Store.meaning c.loop-place.resend) (g.R.Store.meaning c.place_cancelled.new.resend) c.args.places c.loop-place.place-index h e.after ∙ inv.0,
+      cancel_more (g.R.Store.meaning c.loop-place.resend) (g.R.Store.meaning c.cancel_place.new.resend) c.args.places c.loop-place.place-index h e.after ∙ inv.0,
       e.lenders ∙ inv.1,
       e.beyond ∙ inv.2,
     )

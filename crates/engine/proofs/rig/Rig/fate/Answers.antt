@@ -3,4 +3,4 @@ use Rattle.engine.proofs.rig.Rig.fate.Goals as goal
 
 pub returns : goal.returns
 unfolding fates_of
-returns c = c.packet_fate.ensures
+returns c = c.fate_of.ensures
