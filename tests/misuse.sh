@@ -1,17 +1,14 @@
 #!/bin/sh
 # Shows that misuses of the crate transport do not compile: a fate that is added once the rig runs, and a step after it has finished.
 # A small program is given to the compiler as it should be, and then once with each misuse, which has to be refused at its own line
-# and for its own reason. Nothing is proved here and no file of the repository is written.
+# and for its own reason. Nothing is proved here and no file of the repository is written: `rt try` compiles in a scratch folder.
 
 root=$(CDPATH= cd "$(dirname "$0")/.." && pwd -P) || exit 1
-guide=$(rt doc) || exit 1
-# what `rt mir` runs; rt itself would first prove the libraries
-compiler=${guide%/docs/*}/bin/rattle-print-mir
 scratch=$(mktemp -d) || exit 1
 trap 'rm -rf "$scratch"' EXIT
 trap 'exit 1' HUP INT TERM
 
-# The libraries that a library needs and the library itself, from crates.txt.
+# The libraries that a library needs and the library itself, from crates.txt; each goes to the scratch folder, without its proofs.
 libraries=
 add_library() { # NAME
     case " $libraries " in *" $1 "*) return ;; esac
@@ -19,23 +16,25 @@ add_library() { # NAME
         add_library "$below"
     done
     libraries="$libraries $1"
+    grep "^$1:" "$root/crates.txt" >>"$scratch/crates.txt"
+    mkdir -p "$scratch/crates/$1"
+    for part in src specs; do
+        [ ! -d "$root/crates/$1/$part" ] || cp -R "$root/crates/$1/$part" "$scratch/crates/$1/$part" || exit 1
+    done
 }
 
 # Compiles the program on standard input; what the compiler says of it goes to the file `said`.
 compile() {
-    cat >"$scratch/main.rt"
-    set -- "$scratch/main.rt" --crate-name misuse --extern "std=${guide%/docs/*}/rlib/std.rlib" -L "dependency=${guide%/docs/*}/rlib"
-    for library in $libraries; do
-        set -- "$@" --lib "$library=$root/crates/$library/src/lib.rt"
-    done
-    "$compiler" "$@" >/dev/null 2>"$scratch/said"
+    cat >"$scratch/crates/misuse/src/main.rt"
+    (cd "$scratch/crates/misuse" && rt try) >"$scratch/said" 2>&1
 }
 
 # The program, with a line of the given text while the rig runs, and one once it has finished.
 program() { # RUNNING FINISHED
-    cat <<EOF
-use channel::record::Attempt;
-use channel::record::Channel;
+    cat <<PROGRAM
+#![tactic(auto)]
+
+use channel::record::{Attempt, Channel};
 use link::packet::Packet;
 use timer::store::Store;
 use trace::fault::RigFault;
@@ -61,8 +60,8 @@ fn play<W: Store<Packet>, R: Store<Attempt>, K: Store<u8>>(
     Ok(finished.tick())
 }
 
-fn main() {}
-EOF
+fn main(rt: HostRuntime) {}
+PROGRAM
 }
 
 # Says whether the compiler refuses the program with a misuse: by one error, with this code, at the line of the misuse.
@@ -72,7 +71,7 @@ refused() { # WHAT CODE RUNNING FINISHED
     if program "$3" "$4" | compile; then
         echo "$1: NOT REFUSED"
         status=1
-    elif [ "$(grep -c 'error\[' "$scratch/said")" -eq 1 ] && grep -q "/main\.rt:$line:[0-9]*: error\[$2\]" "$scratch/said"; then
+    elif [ "$(grep -c 'error\[' "$scratch/said")" -eq 1 ] && grep -q "^src/main\.rt:$line:[0-9]*: error\[$2\]" "$scratch/said"; then
         echo "$1: refused ($2)"
     else
         echo "$1: refused, but not by $2 at line $line:"
@@ -81,7 +80,9 @@ refused() { # WHAT CODE RUNNING FINISHED
     fi
 }
 
+mkdir -p "$scratch/crates/misuse/src" || exit 1
 add_library transport
+echo "misuse: $libraries" >>"$scratch/crates.txt"
 if ! program '' '' | compile; then
     echo "the program without a misuse does not compile:"
     cat "$scratch/said"
