@@ -10,12 +10,10 @@ use Rattle.replay.proofs.Ending.{begun_state, first_begun, first_ready, from_fir
 use Rattle.replay.proofs.run.run.Goals as goal
 
 pub play-requires : goal.play-requires
-play-requires g c κs within =
+play-requires g c =
     let l : Lent = record { wire = g.W.Store.meaning c.args.wire.now; resend = g.R.Store.meaning c.args.resend.now; keepalive = g.K.Store.meaning c.args.keepalive.now; table = c.args.table.now } in
     let b = c.in_ok-rig.ensures.begins in
-    let r : Ready (state_of c.in_ok-rig.rig c.args.fates.now l.wire l.resend l.keepalive (take 64 c.begin.new.table)) =
-    first_ready c.args.draft c.args.fates.now l c.in_ok-rig.rig c.begin.new.table b.1 b.2 (length c.args.table.now) b.0 c.in_ok-rig.ensures.fits in
-    (within.0, (within.1.0, (within.1.1, r)))
+    record { ready = first_ready c.args.draft c.args.fates.now l c.in_ok-rig.rig c.begin.new.table b.1 b.2 (length c.args.table.now) b.0 c.in_ok-rig.ensures.fits }
 
 pub returns : goal.returns
 returns g c =
