@@ -1,5 +1,5 @@
 -- What a session begins with.
-use Rattle.std.specs.Prelude.{◌≡◌, ℕ, ◌+◌, ◌-◌, ◌≤◌, Bool, true, false, cond, not, ◌&&◌, ◌||◌, List, length, Some, None, Option, ◌==◌, nat_le, nat_lt}
+use Rattle.std.specs.Prelude.{◌≡◌, ℕ, ◌+◌, ◌-◌, ◌≤◌, Bool, true, false, not, ◌&&◌, ◌||◌, length, Some, None, Option, ◌==◌, nat_le, nat_lt}
 use Rattle.timer.specs.History.{Fresh}
 use Rattle.timer.specs.Meaning.{Meaning}
 use Rattle.trace.specs.declared.fault.RigFault.{RigFault}

@@ -1,11 +1,10 @@
 -- What each call of the rig answers, and the state after it.
-use Rattle.std.specs.Prelude.{ℕ, ◌+◌, ◌-◌, Bool, true, false, cond, not, ◌&&◌, ◌||◌, List, [], ◌∷◌, ◌++◌, length, Some, None, Ok, Err, Option, Result, ◌==◌, nat_le, nat_lt}
+use Rattle.std.specs.Prelude.{ℕ, Bool, true, false, not, ◌&&◌, ◌||◌, List, [], ◌∷◌, ◌++◌, Some, None, Ok, Err, Option, Result, ◌==◌, nat_le, nat_lt}
 use Rattle.timer.specs.declared.expired.Expired.{Expired}
 use Rattle.timer.specs.declared.fault.TimerFault.{TimerFault}
 use Rattle.timer.specs.Meaning.{Meaning}
 use Rattle.timer.specs.Rules.{Event, Outcome, due_rule, start_rule, stop_rule, take_rule, advance_rule}
 use Rattle.trace.specs.declared.action.Segment.{Segment}
-use Rattle.trace.specs.declared.action.Transmission.{Transmission}
 use Rattle.trace.specs.declared.action.Action.{Action}
 use Rattle.trace.specs.declared.action.Action.TheVariants as action
 use Rattle.trace.specs.declared.fault.RigFault.{RigFault}
@@ -16,7 +15,6 @@ use Rattle.estimator.specs.Estimate.{wait_rule}
 use Rattle.link.specs.declared.packet.Packet.{Packet}
 use Rattle.link.specs.declared.packet.Packet.TheVariants as packet
 use Rattle.channel.specs.declared.record.Attempt.{Attempt}
-use Rattle.channel.specs.declared.record.Channel.{Channel}
 use Rattle.channel.specs.declared.record.SendPlace.{SendPlace}
 use Rattle.channel.specs.declared.record.SendPlace.TheVariants.{Answered, Waiting}
 use Rattle.channel.specs.Record.{opened, is_open, is_unused, window_full, sent, resent, awaits, answered, front, without_front, acknowledges, received, closed, kept_alive, first_attempt, again, sample}

@@ -1,5 +1,5 @@
 -- The state of the rig: what lies between two calls.
-use Rattle.std.specs.Prelude.{ℕ, ◌+◌, Bool, cond, ◌||◌, List, [], length, replicate, None, ◌==◌, nat_lt, slice_index_or, slice_set}
+use Rattle.std.specs.Prelude.{ℕ, ◌+◌, Bool, ◌||◌, List, [], length, replicate, None, ◌==◌, nat_lt, slice_index_or, slice_set}
 use Rattle.timer.specs.Meaning.{Meaning}
 use Rattle.link.specs.declared.packet.Packet.{Packet}
 use Rattle.channel.specs.declared.record.Attempt.{Attempt}

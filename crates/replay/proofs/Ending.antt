@@ -1,8 +1,5 @@
 -- From a draft to the end of its session.
-use Rattle.std.proofs.Common.{◌≡◌, ℕ, ◌≤◌, Bool, true, List, [], take, None, vec_items, sym, refl, ap, ◌∙◌, subst}
-use Rattle.timer.specs.Meaning.{Meaning}
-use Rattle.link.specs.declared.packet.Packet.{Packet}
-use Rattle.channel.specs.declared.record.Attempt.{Attempt}
+use Rattle.std.proofs.Common.{◌≡◌, ℕ, ◌≤◌, Bool, true, List, [], take, None, vec_items, sym, ap, ◌∙◌, subst}
 use Rattle.channel.specs.declared.record.Channel.{Channel}
 use Rattle.protocol.specs.State.{State, tick_of, fresh_table}
 use Rattle.protocol.specs.Begin.{Begun, begin_check}

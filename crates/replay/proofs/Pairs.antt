@@ -1,15 +1,14 @@
 -- Rigs that begin alike are in the same state.
-use Rattle.std.proofs.Common.{◌≡◌, ℕ, ◌<◌, Bool, true, cond, ltb, List, length, get_or, Ok, Err, vec_items, Option, Result, sym, refl, ap, ◌∙◌, arith, lt-ltb}
+use Rattle.std.proofs.Common.{◌≡◌, ℕ, ◌<◌, Bool, cond, List, length, get_or, Ok, Err, Option, Result, sym, ap, ◌∙◌, arith, lt-ltb}
 use mathlib.Core.Path.{fun_ext}
 use Rattle.std.proofs.lemmas.List.{same_lists, get_or_default}
 use Rattle.timer.specs.History.{Fresh}
 use Rattle.timer.specs.Meaning.{Meaning}
 use Rattle.timer.specs.Rules.{limit_rule}
 use Rattle.trace.specs.declared.fault.RigFault.{RigFault}
-use Rattle.protocol.specs.State.{State, tick_of, begun, fresh_table}
+use Rattle.protocol.specs.State.{State, tick_of, begun}
 use Rattle.protocol.specs.Begin.{Begun}
 use Rattle.transport.specs.declared.rig.Draft.{Draft}
-use Rattle.transport.specs.declared.rig.Finished.{Finished}
 use Rattle.session.specs.declared.command.Command.{Command}
 use Rattle.session.specs.Run.{calls_of, notes_of, ends}
 use Rattle.session.specs.Text.{session_text}

@@ -1,5 +1,5 @@
 -- Stepping until a tick, turn by turn.
-use Rattle.std.proofs.Common.{◌≡◌, ℕ, ◌<◌, Bool, true, false, List, [], ◌∷◌, ◌++◌, is_ok, sym, refl, ap, ◌∙◌, subst}
+use Rattle.std.proofs.Common.{◌≡◌, ℕ, ◌<◌, true, false, List, [], ◌∷◌, ◌++◌, is_ok, sym, ap, ◌∙◌, subst}
 use Rattle.protocol.specs.declared.operation.Operation.TheVariants.{Step}
 use Rattle.protocol.specs.State.{State}
 use Rattle.protocol.specs.Rules.{step_rule}

@@ -8,7 +8,6 @@ use Rattle.channel.specs.declared.record.Channel.{Channel}
 use Rattle.protocol.specs.State.{State, tick_of, begun}
 use Rattle.protocol.specs.Begin.{Begun}
 use Rattle.transport.specs.declared.rig.Draft.{Draft}
-use Rattle.transport.specs.declared.rig.Refused.{Refused}
 use Rattle.transport.specs.Parts.{fates_of}
 use Rattle.session.specs.declared.command.Call.{Call}
 use Rattle.session.specs.declared.command.Command.{Command}

@@ -3,6 +3,7 @@
 mod play;
 mod script;
 
+use anyhow::anyhow;
 use replay::outcome::{Session, Stopped};
 use std::io::Write;
 
@@ -39,7 +40,7 @@ fn played(outcome: Result<Session, Stopped>) -> anyhow::Result<()> {
 // Why a session was not played to its end.
 fn told(stopped: Stopped) -> anyhow::Error {
     match stopped {
-        Stopped::Begin(_) => "the session could not begin".into(),
-        Stopped::Memory => "memory ran out".into(),
+        Stopped::Begin(_) => anyhow!("the session could not begin"),
+        Stopped::Memory => anyhow!("memory ran out"),
     }
 }

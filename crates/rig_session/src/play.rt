@@ -1,6 +1,6 @@
 ghost use Rattle.std.specs.Prelude.{◌≡◌, IfOk};
 ghost use Rattle.replay.specs.Alike.{Both};
-ghost use Rattle.rig.specs.Stores.{idle};
+ghost use Rattle.rig_session.specs.Stores.{idle};
 
 use crate::script;
 use anyhow::anyhow;

@@ -1,9 +1,8 @@
 -- The laws, carried from call to call.
-use Rattle.std.proofs.Common.{◌≡◌, ℕ, List, [], ◌∷◌, ◌++◌, sym, refl, ap, ◌∙◌, subst}
+use Rattle.std.proofs.Common.{◌≡◌, ℕ, List, [], ◌∷◌, ◌++◌, sym, subst}
 use Rattle.std.proofs.lemmas.List.{append-nil, append_assoc}
 use Rattle.protocol.specs.State.{State}
-use Rattle.protocol.specs.Begin.{Begun}
-use Rattle.protocol.specs.Rules.{Events, no_events, joined, rule}
+use Rattle.protocol.specs.Rules.{Events, no_events, joined}
 use Rattle.timers_law.specs.Ready.{Ready}
 use Rattle.timers_law.specs.Timers.{Lawfuls}
 use Rattle.timers_law.proofs.Ready.{begun_ready, rule_ready}
@@ -14,7 +13,7 @@ use Rattle.words_law.proofs.Words.{Holds, begun_holds, rule_holds, holds_follows
 use Rattle.session.specs.declared.command.Call.{Call}
 use Rattle.session.specs.declared.command.Call.TheVariants.{Operate, Ask}
 use Rattle.session.specs.Run.{call_answer, call_after, call_events, notes_of, ends, events_of}
-use Rattle.session.specs.Law.{call_sent, call_taken, call_granted, sent, taken, Granted, Law, Laws}
+use Rattle.session.specs.Law.{call_sent, call_taken, call_granted, sent, taken, Granted, Laws}
 
 -- ready
 pub call_ready : (s : State) (c : Call) → Ready s → Ready (call_after s c)

@@ -1,6 +1,5 @@
 -- What holds of every session, whatever its commands are.
-use Rattle.std.specs.Prelude.{◌≡◌, ℕ, List, [], ◌∷◌, ◌++◌}
-use Rattle.trace.specs.declared.action.Action.{Action}
+use Rattle.std.specs.Prelude.{ℕ, List, [], ◌∷◌, ◌++◌}
 use Rattle.protocol.specs.State.{State}
 use Rattle.protocol.specs.Begin.{Begun}
 use Rattle.timers_law.specs.Timers.{Lawfuls}

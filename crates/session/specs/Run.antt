@@ -1,5 +1,5 @@
 -- A session as a list of calls: what each answers, what is noted of it, and where the list leads.
-use Rattle.std.specs.Prelude.{ℕ, zero, suc, Bool, true, false, cond, List, [], ◌∷◌, ◌++◌, length, is_ok}
+use Rattle.std.specs.Prelude.{ℕ, zero, suc, Bool, false, cond, List, [], ◌∷◌, ◌++◌, length, is_ok}
 use Rattle.timer.specs.Meaning.{Meaning}
 use Rattle.timer.specs.Rules.{due_rule, limit_rule, count_rule, check_rule}
 use Rattle.trace.specs.declared.queue.Queue.{Queue}

@@ -1,5 +1,5 @@
 -- No step is refused by a store.
-use Rattle.std.specs.Prelude.{◌≡◌, List, [], ◌∷◌, Err, Result, ◌≢◌}
+use Rattle.std.specs.Prelude.{List, [], ◌∷◌, Err, Result, ◌≢◌}
 use Rattle.trace.specs.declared.action.Action.{Action}
 use Rattle.trace.specs.declared.fault.RigFault.{RigFault}
 use Rattle.trace.specs.declared.fault.RigFault.TheVariants.{Store}

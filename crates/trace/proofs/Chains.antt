@@ -1,5 +1,5 @@
 -- One addition after another.
-use Rattle.std.proofs.Common.{◌≡◌, ℕ, List, ◌++◌, length, take, drop, sym, ap, ◌∙◌, append_assoc, length-append, rules}
+use Rattle.std.proofs.Common.{◌≡◌, ℕ, List, ◌++◌, length, drop, sym, ap, ◌∙◌, append_assoc, length-append, rules}
 use Rattle.std.proofs.lemmas.List.{drop-drop}
 use Rattle.trace.specs.declared.out.Out.{Out}
 use Rattle.trace.specs.Writing.{Adds}

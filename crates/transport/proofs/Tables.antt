@@ -1,8 +1,8 @@
 -- The first 64 records of a table, lent to a call.
-use Rattle.std.proofs.Common.{◌≡◌, ℕ, ◌<◌, ◌≤◌, Bool, true, false, ltb, List, length, take, drop, refl, ap, ◌∙◌, arith, rules, le-ltb, lt-ltb}
+use Rattle.std.proofs.Common.{◌≡◌, ℕ, ◌<◌, ◌≤◌, Bool, List, length, take, drop, ap, ◌∙◌, arith, le-ltb, lt-ltb}
 use borrow.Rule.Slice.PartMut.{put_mid}
 use Rattle.std.proofs.lemmas.List.{length-take-le, take_all}
-use Rattle.std.proofs.lemmas.Slice.{take-put_mid, drop-put_mid, overwrites}
+use Rattle.std.proofs.lemmas.Slice.{take-put_mid, drop-put_mid}
 use Rattle.trace.specs.declared.fault.RigFault.TheVariants as fault
 use Rattle.channel.specs.declared.record.Channel.{Channel}
 use Rattle.protocol.specs.State.{State, table_short}

@@ -1,4 +1,4 @@
-use Rattle.std.proofs.Common.{◌≡◌, sym, ap, ◌∙◌, add-one, arith, rules}
+use Rattle.std.proofs.Common.{add-one, rules}
 use Rattle.protocol.specs.Link.{carry}
 use Rattle.engine.proofs.link.carry.Goals as goal
 

@@ -1,4 +1,3 @@
-use Rattle.std.proofs.Common.{◌≡◌}
 use Rattle.replay.specs.Outcome.{Lent}
 use Rattle.replay.proofs.Pairs.{Sized, indistinguishable}
 use Rattle.replay.proofs.pair.run_pair.Goals as goal

@@ -1,4 +1,4 @@
-use Rattle.std.proofs.Common.{◌≡◌, Bool, true, false, take, is_ok, vec_items, sym, refl, ap, ◌∙◌, subst, rules}
+use Rattle.std.proofs.Common.{Bool, true, take, vec_items, sym, subst}
 use Rattle.protocol.specs.State.{State}
 use Rattle.transport.specs.Parts.{state_of}
 use Rattle.session.specs.declared.command.Command.{Command}

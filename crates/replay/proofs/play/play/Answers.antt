@@ -1,4 +1,4 @@
-use Rattle.std.proofs.Common.{◌≡◌, Bool, true, false, take, is_ok, vec_items, sym, refl, ap, ◌∙◌, subst, rules}
+use Rattle.std.proofs.Common.{Bool, true, take, vec_items, sym, refl, ◌∙◌, subst, rules}
 use Rattle.protocol.specs.State.{State}
 use Rattle.timers_law.specs.Ready.{Ready}
 use Rattle.transport.specs.Parts.{state_of}

@@ -1,12 +1,11 @@
-use Rattle.std.proofs.Common.{◌≡◌, Bool, true, length, take, vec_items, sym, refl, ap, ◌∙◌, rules}
-use Rattle.protocol.specs.State.{State, tick_of}
-use Rattle.timers_law.specs.Ready.{Ready}
+use Rattle.std.proofs.Common.{◌≡◌, true, length, take, vec_items, refl, ap, ◌∙◌, rules}
+use Rattle.protocol.specs.State.{State}
 use Rattle.transport.specs.declared.rig.Finished.{Finished}
 use Rattle.transport.specs.Parts.{state_of}
 use Rattle.session.specs.Text.{session_text}
 use Rattle.replay.specs.declared.outcome.Session.{Session}
 use Rattle.replay.specs.Outcome.{Lent, first_state, Holds}
-use Rattle.replay.proofs.Ending.{begun_state, first_begun, first_ready, from_first, played, broken}
+use Rattle.replay.proofs.Ending.{begun_state, first_begun, first_ready, from_first, played}
 use Rattle.replay.proofs.run.run.Goals as goal
 
 pub play-requires : goal.play-requires

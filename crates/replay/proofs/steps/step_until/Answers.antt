@@ -1,4 +1,4 @@
-use Rattle.std.proofs.Common.{◌≡◌, Bool, true, false, take, is_ok, vec_items, sym, refl, ap, ◌∙◌, subst, rules}
+use Rattle.std.proofs.Common.{◌≡◌, true, false, take, is_ok, vec_items, sym, refl, ◌∙◌, rules}
 use Rattle.protocol.specs.State.{State}
 use Rattle.protocol.specs.Rules.{step_rule}
 use Rattle.timers_law.specs.Ends.{goes_on}

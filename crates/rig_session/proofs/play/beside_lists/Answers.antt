@@ -1,6 +1,6 @@
 use Rattle.std.proofs.Common.{sym, ◌∙◌}
 use Rattle.std.proofs.lemmas.Result.{IfOk-weaker}
-use Rattle.rig.proofs.play.beside_lists.Goals as goal
+use Rattle.rig_session.proofs.play.beside_lists.Goals as goal
 
 pub returns : goal.returns
 returns g c =

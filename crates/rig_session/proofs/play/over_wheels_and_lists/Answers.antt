@@ -1,5 +1,5 @@
 use Rattle.std.proofs.lemmas.Result.{IfOk-weaker}
-use Rattle.rig.proofs.play.over_wheels_and_lists.Goals as goal
+use Rattle.rig_session.proofs.play.over_wheels_and_lists.Goals as goal
 
 pub returns : goal.returns
 returns c =

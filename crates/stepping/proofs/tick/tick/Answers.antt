@@ -1,4 +1,4 @@
-use Rattle.std.proofs.Common.{◌≡◌, sym, refl, ap, ◌∙◌}
+use Rattle.std.proofs.Common.{sym, refl, ap, ◌∙◌}
 use Rattle.timer.specs.Rules.{advance_rule}
 use Rattle.trace.specs.declared.queue.Queue.TheVariants.{Wire, Resend, Keepalive}
 use Rattle.protocol.specs.State.{State}
