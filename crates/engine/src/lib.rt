@@ -3,7 +3,7 @@
 // The workshop of `transport`: what its calls share. Some functions here have preconditions; `transport` is the interface without any.
 
 pub mod cancel;
-pub mod link;
+pub mod dispatch;
 pub mod live;
 pub mod rig;
 pub mod worn;

@@ -1,6 +1,6 @@
 -- The entries that are pending: what is found among them, and what is left without one.
 use Rattle.std.proofs.Common.{◌≡◌, ℕ, ◌+◌, ◌<◌, ◌≤◌, true, false, cond, eqb, ◌⊎◌, List, [], ◌∷◌, ◌++◌, Some, None, Option, sym, refl, ap, ◌∙◌, subst, inl, inr, arith}
-use Rattle.std.specs.List.{AllByRecursion as All}
+use Rattle.std.specs.List.{AllByRecursion}
 use Rattle.std.proofs.ByRecursion.{All-push}
 use Rattle.std.proofs.lemmas.Bool.{cases_eq, eq-eqb, ne_eqb, cond-true, cond-false}
 use Rattle.std.proofs.lemmas.Bool.Decides.{nat_tests}
@@ -9,11 +9,11 @@ use Rattle.timer.specs.Rules.{find, without, due_entry}
 use Rattle.timer.specs.History.{In, times_pending}
 use Rattle.timer.proofs.Members.{never}
 
-pub all_in : {P : Type 0} (Q : Entry P → Type 0) (es : List (Entry P)) (e : Entry P) → All Q es → In e es → Q e
+pub all_in : {P : Type 0} (Q : Entry P → Type 0) (es : List (Entry P)) (e : Entry P) → AllByRecursion Q es → In e es → Q e
 all_in Q [] e a h = absurd h
 all_in Q (x ∷ es) e a h = elim h [ inl q ↦ subst Q q a.0 | inr i ↦ all_in Q es e a.1 i ]
 
-pub all_from_in : {P : Type 0} (Q : Entry P → Type 0) (es : List (Entry P)) → ((e : Entry P) → In e es → Q e) → All Q es
+pub all_from_in : {P : Type 0} (Q : Entry P → Type 0) (es : List (Entry P)) → ((e : Entry P) → In e es → Q e) → AllByRecursion Q es
 all_from_in Q [] f = tt
 all_from_in Q (x ∷ es) f = (f x (inl refl), all_from_in Q es (λ e i. f e (inr i)))
 
@@ -44,7 +44,7 @@ rising_without t (x ∷ es) r =
       )
     ]
 
-pub rising_push : {P : Type 0} (es : List (Entry P)) (e : Entry P) → Rising es → All (λ f. f.ticket < e.ticket) es → Rising (es ++ e ∷ [])
+pub rising_push : {P : Type 0} (es : List (Entry P)) (e : Entry P) → Rising es → AllByRecursion (λ f. f.ticket < e.ticket) es → Rising (es ++ e ∷ [])
 rising_push [] e r a = (tt, tt)
 rising_push (x ∷ es) e r a = (All-push (λ f. x.ticket < f.ticket) es e r.0 a.0, rising_push es e r.1 a.1)
 

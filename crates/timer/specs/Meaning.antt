@@ -1,6 +1,6 @@
 -- What a timer store means, whatever it is made of.
 use Rattle.std.specs.Prelude.{◌≡◌, ℕ, ◌<◌, List, [], ◌∷◌, length}
-use Rattle.std.specs.List.{AllByRecursion as All}
+use Rattle.std.specs.List.{AllByRecursion}
 
 pub record Entry (P : Type 0) : Type 0 where
   pub ticket : ℕ
@@ -20,7 +20,7 @@ pub record Meaning (P : Type 0) : Type 0 where
 -- each ticket is below those after it
 abbrev pub Rising : {P : Type 0} → List (Entry P) → Type 0
 Rising [] = Unit {0}
-Rising (e ∷ es) = All (λ f. e.ticket < f.ticket) es × Rising es
+Rising (e ∷ es) = AllByRecursion (λ f. e.ticket < f.ticket) es × Rising es
 
 -- what holds of every store at any time
 pub record Sound {P : Type 0} (m : Meaning P) : Type 0 where

@@ -1,6 +1,6 @@
 -- The entries of rows, when a row takes one in, gives one up, or is looked for.
 use Rattle.std.proofs.Common.{◌≡◌, ℕ, zero, suc, ◌+◌, ◌<◌, ◌≤◌, true, false, cond, eqb, ltb, ◌≢◌, List, [], ◌∷◌, ◌++◌, length, get_or, set, Some, None, sym, refl, ap, ◌∙◌, subst, ⊎_elim, arith}
-use Rattle.std.specs.List.{AllByRecursion as All}
+use Rattle.std.specs.List.{AllByRecursion}
 use Rattle.std.proofs.lemmas.List.{get_or-map, get_or_past, length-map}
 use Rattle.std.proofs.lemmas.Bool.Decides.{nat_tests}
 use Rattle.std.proofs.lemmas.Bool.{cases_Bool, cases_eq, cases_lt, eqb-false, eq-eqb, ne_eqb, ltb-true, ltb-false, lt-ltb, le-ltb}
@@ -11,22 +11,22 @@ use Rattle.timer_rows.specs.Rows.{tickets, deadlines, entry_of, placed, entries,
 
 -- no entry of the list has the ticket
 abbrev pub Lacks : {P : Type 0} → ℕ → List (Entry P) → Type 0
-Lacks t es = All (λ e. e.ticket ≢ t) es
+Lacks t es = AllByRecursion (λ e. e.ticket ≢ t) es
 
 -- every ticket of the list is below t
 abbrev pub Under : {P : Type 0} → ℕ → List (Entry P) → Type 0
-Under t es = All (λ e. e.ticket < t) es
+Under t es = AllByRecursion (λ e. e.ticket < t) es
 
 -- of the entries that are due at n, every ticket is above t
 abbrev pub Later : {P : Type 0} → ℕ → ℕ → List (Entry P) → Type 0
-Later n t es = All (λ e. e.deadline ≡ n → t < e.ticket) es
+Later n t es = AllByRecursion (λ e. e.deadline ≡ n → t < e.ticket) es
 
 module _ {P : Type 0} where
   -- what holds of an entry and of the others holds of all with it placed among them
-  pub all_placed : (Q : Entry P → Type 0) (e : Entry P) (es : List (Entry P)) → Q e → All Q es → All Q (placed e es)
+  pub all_placed : (Q : Entry P → Type 0) (e : Entry P) (es : List (Entry P)) → Q e → AllByRecursion Q es → AllByRecursion Q (placed e es)
   all_placed Q e [] q a = (q, tt)
   all_placed Q e (f ∷ fs) q a =
-      elim (ltb e.ticket f.ticket) as (λ v. All Q (cond v (e ∷ f ∷ fs) (f ∷ placed e fs))) [
+      elim (ltb e.ticket f.ticket) as (λ v. AllByRecursion Q (cond v (e ∷ f ∷ fs) (f ∷ placed e fs))) [
         | true ↦ (q, a)
         | false ↦ (a.0, all_placed Q e fs q a.1)
       ]
@@ -39,7 +39,7 @@ module _ {P : Type 0} where
         | false ↦ ap suc (length_placed e fs)
       ]
 
-  under_rising : (t u : ℕ) (es : List (Entry P)) → t < u → All (λ f. u < f.ticket) es → All (λ f. t < f.ticket) es
+  under_rising : (t u : ℕ) (es : List (Entry P)) → t < u → AllByRecursion (λ f. u < f.ticket) es → AllByRecursion (λ f. t < f.ticket) es
   under_rising t u [] l a = tt
   under_rising t u (f ∷ fs) l a = (omega (arith, a.0), under_rising t u fs l a.1)
 
@@ -98,7 +98,7 @@ module _ {P : Type 0} where
         | false ↦ rw (ne_eqb f.ticket e.ticket k.0) (ap (λ l. f ∷ l) (without_placed e fs k.1))
       ]
 
-  placed_first : (e : Entry P) (es : List (Entry P)) → All (λ f. e.ticket < f.ticket) es → placed e es ≡ e ∷ es
+  placed_first : (e : Entry P) (es : List (Entry P)) → AllByRecursion (λ f. e.ticket < f.ticket) es → placed e es ≡ e ∷ es
   placed_first e [] a = refl
   placed_first e (f ∷ fs) a = rw (lt-ltb e.ticket f.ticket a.0)
 
@@ -141,7 +141,7 @@ module _ {P : Type 0} where
       ]
 
   -- in rising entries the first due one is no earlier than a number below all of them
-  due_above : (n t : ℕ) (d : Entry P) (es : List (Entry P)) → All (λ f. t < f.ticket) es → due_entry n es ≡ Some d → t < d.ticket
+  due_above : (n t : ℕ) (d : Entry P) (es : List (Entry P)) → AllByRecursion (λ f. t < f.ticket) es → due_entry n es ≡ Some d → t < d.ticket
   due_above n t d [] a h = let z : ◌≡◌ {A = ℕ} 0 1 = cc in absurd (omega arith)
   due_above n t d (f ∷ fs) a h =
       ⊎_elim
@@ -196,12 +196,12 @@ module _ {P : Type 0} where
   find_none t [] k = refl
   find_none t (f ∷ fs) k = rw (ne_eqb f.ticket t k.0) (find_none t fs k.1)
 
-  due_none : (n : ℕ) (es : List (Entry P)) → All (λ e. e.deadline ≢ n) es → due_entry n es ≡ None
+  due_none : (n : ℕ) (es : List (Entry P)) → AllByRecursion (λ e. e.deadline ≢ n) es → due_entry n es ≡ None
   due_none n [] k = refl
   due_none n (f ∷ fs) k = rw (ne_eqb f.deadline n k.0) (due_none n fs k.1)
 
   -- what holds of each row that holds an entry holds of the entries
-  pub all_entries : (Q : Entry P → Type 0) (rows : List (Row P)) → ((i : ℕ) (d : Row P) → i < length rows → (get_or rows i d).ticket ≢ 0 → Q (entry_of (get_or rows i d))) → All Q (entries rows)
+  pub all_entries : (Q : Entry P → Type 0) (rows : List (Row P)) → ((i : ℕ) (d : Row P) → i < length rows → (get_or rows i d).ticket ≢ 0 → Q (entry_of (get_or rows i d))) → AllByRecursion Q (entries rows)
   all_entries Q [] h = tt
   all_entries Q (r ∷ rs) h =
       let rest = all_entries Q rs (λ i d l. h (suc i) d (omega arith)) in

@@ -1,6 +1,6 @@
 -- A rig is ready when it begins and after every call.
 use Rattle.std.proofs.Common.{◌≡◌, ℕ, ◌<◌, ◌≤◌, List, [], length, get_or, sym, refl, ◌∙◌, subst, arith}
-use Rattle.std.specs.List.{AllByRecursion as All}
+use Rattle.std.specs.List.{AllByRecursion}
 use Rattle.timer.specs.Meaning.{Entry, Meaning, Rising}
 use Rattle.timer.specs.Rules.{Event, count, ticked}
 use Rattle.timer.specs.History.{Fresh}
@@ -21,8 +21,8 @@ fresh_within {P} m f =
     record {
       room = at (λ es. length es ≤ m.capacity) (omega arith);
       allowed = λ o l. at (λ es. count o es ≤ get_or m.limits o 0) (omega arith);
-      known = at (All (λ e. e.owner < 64)) tt;
-      issued = at (All (λ e. e.ticket ≤ m.given)) tt;
+      known = at (AllByRecursion (λ e. e.owner < 64)) tt;
+      issued = at (AllByRecursion (λ e. e.ticket ≤ m.given)) tt;
       rising = at Rising tt;
     }
 

@@ -1,6 +1,6 @@
 -- Starts, stops and takes keep a store within its capacity and its limits.
 use Rattle.std.proofs.Common.{◌≡◌, ℕ, ◌+◌, ◌<◌, ◌≤◌, true, cond, eqb, List, [], ◌∷◌, ◌++◌, length, Some, None, Option, refl, arith}
-use Rattle.std.specs.List.{AllByRecursion as All}
+use Rattle.std.specs.List.{AllByRecursion}
 use Rattle.std.proofs.ByRecursion.{All-push, All-weaker}
 use Rattle.std.proofs.lemmas.List.{length_push}
 use Rattle.std.proofs.lemmas.List.Sums.{sum_by_push}
@@ -57,7 +57,7 @@ entered_within {P} m deadline owner payload k h =
           (All-weaker (λ f. f.ticket ≤ m.given) (λ f. f.ticket < m.given + 1) (λ f q. omega arith) m.pending h.issued);
     }
 
-all_without : {P : Type 0} (Q : Entry P → Type 0) (t : ℕ) (es : List (Entry P)) → All Q es → All Q (without t es)
+all_without : {P : Type 0} (Q : Entry P → Type 0) (t : ℕ) (es : List (Entry P)) → AllByRecursion Q es → AllByRecursion Q (without t es)
 all_without Q t es a = all_from_in Q (without t es) (λ e i. all_in Q es e a (in_without t es e i))
 
 pub left_within : {P : Type 0} (m : Meaning P) (e : Entry P) → Within m → Within (left m e)

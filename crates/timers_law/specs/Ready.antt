@@ -1,6 +1,6 @@
 -- What holds between two calls of a rig: the clocks agree, and every timer that was taken may start anew.
 use Rattle.std.specs.Prelude.{ℕ, ◌+◌, ◌<◌, ◌≤◌, length, slice_index}
-use Rattle.std.specs.List.{AllByRecursion as All}
+use Rattle.std.specs.List.{AllByRecursion}
 use Rattle.timer.specs.Meaning.{Meaning, Rising}
 use Rattle.timer.specs.Rules.{count}
 use Rattle.protocol.specs.State.{State}
@@ -10,8 +10,8 @@ use Rattle.protocol.specs.Begin.{Together}
 pub record Within {P : Type 0} (m : Meaning P) : Type 0 where
   pub room : length m.pending ≤ m.capacity
   pub allowed : (o : ℕ) → o < 64 → count o m.pending ≤ slice_index m.limits o
-  pub known : All (λ e. e.owner < 64) m.pending
-  pub issued : All (λ e. e.ticket ≤ m.given) m.pending
+  pub known : AllByRecursion (λ e. e.owner < 64) m.pending
+  pub issued : AllByRecursion (λ e. e.ticket ≤ m.given) m.pending
   pub rising : Rising m.pending
 
 pub record Ready (s : State) : Type 0 where

@@ -1,6 +1,6 @@
 #![tactic(auto)]
 
-pub mod calls;
 pub mod draft;
 pub mod questions;
 pub mod rig;
+pub mod running;

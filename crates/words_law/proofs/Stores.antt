@@ -1,6 +1,6 @@
 -- What holds of each pending entry of a store, over the calls of the store.
 use Rattle.std.proofs.Common.{ℕ, zero, suc, ◌+◌, true, false, cond, eqb, List, [], ◌∷◌, Some, None, Option}
-use Rattle.std.specs.List.{AllByRecursion as All}
+use Rattle.std.specs.List.{AllByRecursion}
 use Rattle.std.proofs.ByRecursion.{All-push, All-weaker}
 use Rattle.std.proofs.lemmas.Bool.{cond_both}
 use Rattle.timer.specs.declared.fault.TimerFault.{TimerFault}
@@ -19,7 +19,7 @@ use Rattle.protocol.specs.Rules.{place_cancelled, all_cancelled}
 
 -- a fact of an owner and a payload, of every entry
 abbrev pub Each : {P : Type 0} → (ℕ → P → Type 0) → List (Entry P) → Type 0
-Each Q es = All (λ e. Q e.owner e.payload) es
+Each Q es = AllByRecursion (λ e. Q e.owner e.payload) es
 
 abbrev pub Pending : {P : Type 0} → (ℕ → P → Type 0) → Meaning P → Type 0
 Pending Q m = Each Q m.pending

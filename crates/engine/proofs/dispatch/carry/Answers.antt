@@ -1,6 +1,6 @@
 use Rattle.std.proofs.Common.{add-one, rules}
 use Rattle.protocol.specs.Link.{carry}
-use Rattle.engine.proofs.link.carry.Goals as goal
+use Rattle.engine.proofs.dispatch.carry.Goals as goal
 
 pub loop-copy-preserved : goal.loop-copy-preserved
 loop-copy-preserved g c = rw add-one (search rules)

@@ -2,7 +2,7 @@ use Rattle.std.proofs.Common.{◌≡◌, ◌+◌, ◌≤◌}
 use Rattle.link.specs.Fate.{fate_delay}
 use Rattle.channel.specs.Record.{stop}
 use Rattle.protocol.specs.Link.{Carried, carried}
-use Rattle.engine.proofs.link.carry.Given as goal
+use Rattle.engine.proofs.dispatch.carry.Given as goal
 
 -- so many copies were tried
 abbrev pub invariant-loop-copy : goal.invariant-loop-copy
