@@ -1,7 +1,7 @@
 -- One addition after another.
 use Rattle.std.proofs.Common.{◌≡◌, ℕ, List, ◌++◌, length, drop, sym, ap, ◌∙◌, append_assoc, length-append, rules}
 use Rattle.std.proofs.lemmas.List.{drop-drop}
-use Rattle.trace.specs.declared.out.Out.{Out}
+use Rattle.trace.specs.declared.sink.Out.{Out}
 use Rattle.trace.specs.Writing.{Adds}
 
 pub then : {d e f : Out} {xs ys : List ℕ} → Adds d xs e → Adds e ys f → Adds d (xs ++ ys) f

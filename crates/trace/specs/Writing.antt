@@ -2,7 +2,7 @@
 use Rattle.std.specs.Prelude.{◌≡◌, ℕ, ◌+◌, ◌<◌, ◌≤◌, List, ◌++◌, length, take, drop, Ok, Err, Result}
 use Rattle.trace.specs.declared.fault.RigFault.{RigFault}
 use Rattle.trace.specs.declared.fault.RigFault.TheVariants.{Buffer}
-use Rattle.trace.specs.declared.out.Out.{Out}
+use Rattle.trace.specs.declared.sink.Out.{Out}
 
 -- n more bytes fit
 abbrev pub Room : Out → ℕ → Type 0

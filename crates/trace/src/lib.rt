@@ -4,7 +4,7 @@ pub mod action;
 pub mod columns;
 pub mod fault;
 pub mod line;
-mod out;
 pub mod queue;
+mod sink;
 pub mod writer;
 mod writing;

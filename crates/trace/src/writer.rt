@@ -4,7 +4,7 @@ ghost use Rattle.trace.specs.Writing.{Written, Wrote};
 
 use crate::fault::RigFault;
 use crate::line::Line;
-use crate::out::Out;
+use crate::sink::Out;
 use std::alloc::AllocError;
 
 /// No line is longer than this, and no buffer for a line may be shorter.

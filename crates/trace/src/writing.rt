@@ -6,8 +6,8 @@ use crate::action::Transmission;
 use crate::columns::Columns;
 use crate::fault::RigFault;
 use crate::line::{Line, Report};
-use crate::out::Out;
 use crate::queue::StoreFault;
+use crate::sink::Out;
 
 impl Out<'_> {
     fn byte(&mut self, b: u8)

@@ -1,6 +1,6 @@
 use Rattle.std.proofs.Common.{rules}
 use Rattle.std.proofs.lemmas.Fmt.{length-decimal-le}
-use Rattle.trace.proofs.out.Out.number.Goals as goal
+use Rattle.trace.proofs.sink.Out.number.Goals as goal
 
 pub digits-requires : goal.digits-requires
 digits-requires c = search (rules, length-decimal-le 10)

@@ -1,6 +1,6 @@
 use Rattle.std.proofs.Common.{arith}
 use Rattle.trace.proofs.Chains.{then}
-use Rattle.trace.proofs.out.Out.packet_fields.Goals as goal
+use Rattle.trace.proofs.sink.Out.packet_fields.Goals as goal
 
 pub returns-in-Some : goal.returns-in-Some
 returns-in-Some c =

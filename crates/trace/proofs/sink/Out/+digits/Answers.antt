@@ -1,7 +1,7 @@
 use Rattle.std.proofs.Common.{arith, length-append, rules}
 use Rattle.std.proofs.lemmas.Fmt.{decimal_digit, decimal_step}
 use Rattle.trace.proofs.Chains.{then}
-use Rattle.trace.proofs.out.Out.+digits.Goals as goal
+use Rattle.trace.proofs.sink.Out.+digits.Goals as goal
 
 pub digits-requires : goal.digits-requires
 digits-requires t c = search (rules, decimal_step, length-append)

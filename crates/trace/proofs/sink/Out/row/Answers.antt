@@ -1,6 +1,6 @@
 use Rattle.std.proofs.Common.{arith}
 use Rattle.trace.proofs.Chains.{then}
-use Rattle.trace.proofs.out.Out.row.Goals as goal
+use Rattle.trace.proofs.sink.Out.row.Goals as goal
 
 pub returns : goal.returns
 returns c =

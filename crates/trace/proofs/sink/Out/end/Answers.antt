@@ -1,6 +1,6 @@
 use Rattle.std.proofs.Common.{arith}
 use Rattle.trace.proofs.Chains.{then}
-use Rattle.trace.proofs.out.Out.end.Goals as goal
+use Rattle.trace.proofs.sink.Out.end.Goals as goal
 
 pub returns : goal.returns
 returns c =
