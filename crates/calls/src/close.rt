@@ -21,7 +21,7 @@ pub fn close<W: Store<Packet>, R: Store<Attempt>, K: Store<u8>>(
     fates: &[u16],
     channel: u32,
 ) -> Result<Action, RigFault>
-    requires fact_1 { length records.old ≡ 64 }
+    requires { length records.old ≡ 64 }
     ensures answer { let s : State = state_of rig.now fates.now (W.meaning wire.now) (R.meaning resend.old) (K.meaning keepalive.old) records.old in result ≡ (close_body s channel).answer }
     ensures after { let s : State = state_of rig.now fates.now (W.meaning wire.now) (R.meaning resend.old) (K.meaning keepalive.old) records.old in state_of rig.now fates.now (W.meaning wire.now) (R.meaning resend.new) (K.meaning keepalive.new) records.new ≡ (close_body s channel).after }
     ensures resend { (R.lenders resend.new ≡ R.lenders resend.old) × (R.beyond resend.new ≡ R.beyond resend.old) }

@@ -21,7 +21,7 @@ pub fn open<W: Store<Packet>, R: Store<Attempt>, K: Store<u8>>(
     fates: &[u16],
     channel: u32,
 ) -> Result<Action, RigFault>
-    requires fact_1 { length records.old ≡ 64 }
+    requires { length records.old ≡ 64 }
     ensures answer { let s : State = state_of rig.now fates.now (W.meaning wire.now) (R.meaning resend.now) (K.meaning keepalive.old) records.old in result ≡ (open_body s channel).answer }
     ensures after { let s : State = state_of rig.now fates.now (W.meaning wire.now) (R.meaning resend.now) (K.meaning keepalive.old) records.old in state_of rig.now fates.now (W.meaning wire.now) (R.meaning resend.now) (K.meaning keepalive.new) records.new ≡ (open_body s channel).after }
     ensures keepalive { (K.lenders keepalive.new ≡ K.lenders keepalive.old) × (K.beyond keepalive.new ≡ K.beyond keepalive.old) }

@@ -24,7 +24,7 @@ pub fn send<W: Store<Packet>, R: Store<Attempt>, K: Store<u8>>(
     channel: u32,
     word: u32,
 ) -> Result<Action, RigFault>
-    requires fact_1 { length records.old ≡ 64 }
+    requires { length records.old ≡ 64 }
     ensures answer { let s : State = state_of rig.old fates.now (W.meaning wire.old) (R.meaning resend.old) (K.meaning keepalive.now) records.old in result ≡ (send_body s channel word).answer }
     ensures after { let s : State = state_of rig.old fates.now (W.meaning wire.old) (R.meaning resend.old) (K.meaning keepalive.now) records.old in state_of rig.new fates.now (W.meaning wire.new) (R.meaning resend.new) (K.meaning keepalive.now) records.new ≡ (send_body s channel word).after }
     ensures wire { (W.lenders wire.new ≡ W.lenders wire.old) × (W.beyond wire.new ≡ W.beyond wire.old) }
@@ -69,7 +69,7 @@ fn launch<W: Store<Packet>, R: Store<Attempt>, K: Store<u8>>(
     record: Channel,
     word: u32,
 ) -> Result<Action, RigFault>
-    requires fact_1 { let s : State = state_of rig.old fates.now (W.meaning wire.old) (R.meaning resend.old) (K.meaning keepalive.now) records.old in (length records.old ≡ 64) × (owner < 64) × («record» ≡ record_of s owner) }
+    requires { let s : State = state_of rig.old fates.now (W.meaning wire.old) (R.meaning resend.old) (K.meaning keepalive.now) records.old in (length records.old ≡ 64) × (owner < 64) × («record» ≡ record_of s owner) }
     ensures answer { let s : State = state_of rig.old fates.now (W.meaning wire.old) (R.meaning resend.old) (K.meaning keepalive.now) records.old in result ≡ (send_start s owner word).answer }
     ensures after { let s : State = state_of rig.old fates.now (W.meaning wire.old) (R.meaning resend.old) (K.meaning keepalive.now) records.old in state_of rig.new fates.now (W.meaning wire.new) (R.meaning resend.new) (K.meaning keepalive.now) records.new ≡ (send_start s owner word).after }
     ensures wire { (W.lenders wire.new ≡ W.lenders wire.old) × (W.beyond wire.new ≡ W.beyond wire.old) }

@@ -20,7 +20,7 @@ pub fn take<W: Store<Packet>, R: Store<Attempt>, K: Store<u8>>(
     fates: &[u16],
     channel: u32,
 ) -> Result<Action, RigFault>
-    requires fact_1 { length records.old ≡ 64 }
+    requires { length records.old ≡ 64 }
     ensures answer { let s : State = state_of rig.now fates.now (W.meaning wire.now) (R.meaning resend.now) (K.meaning keepalive.now) records.old in result ≡ (take_body s channel).answer }
     ensures after { let s : State = state_of rig.now fates.now (W.meaning wire.now) (R.meaning resend.now) (K.meaning keepalive.now) records.old in state_of rig.now fates.now (W.meaning wire.now) (R.meaning resend.now) (K.meaning keepalive.now) records.new ≡ (take_body s channel).after }
 {

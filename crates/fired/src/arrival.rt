@@ -43,7 +43,7 @@ pub fn arrival<W: Store<Packet>, R: Store<Attempt>, K: Store<u8>>(
     fates: &[u16],
     entry: Expired<Packet>,
 ) -> Action
-    requires fact_1 { length records.old ≡ 64 }
+    requires { length records.old ≡ 64 }
     ensures answer { let s : State = state_of rig.old fates.now (W.meaning wire.old) (R.meaning resend.old) (K.meaning keepalive.now) records.old in Ok result ≡ (arrival s entry).answer }
     ensures after { let s : State = state_of rig.old fates.now (W.meaning wire.old) (R.meaning resend.old) (K.meaning keepalive.now) records.old in state_of rig.new fates.now (W.meaning wire.new) (R.meaning resend.new) (K.meaning keepalive.now) records.new ≡ (arrival s entry).after }
     ensures wire { (W.lenders wire.new ≡ W.lenders wire.old) × (W.beyond wire.new ≡ W.beyond wire.old) }

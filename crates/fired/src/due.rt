@@ -1,6 +1,6 @@
 ghost use Rattle.std.specs.Prelude.{◌≡◌, ◌<◌, length};
 ghost use Rattle.protocol.specs.State.{State};
-ghost use Rattle.protocol.specs.Rules.{resend_rule, resend as resend-entry, beat_rule, beat as beat-entry};
+ghost use Rattle.protocol.specs.Rules.{resend_rule, resend as resend_entry, beat_rule, beat as beat_entry};
 ghost use Rattle.engine.specs.Parts.{state_of};
 
 use channel::record::{Attempt, Channel};
@@ -25,7 +25,7 @@ fn resend_open<W: Store<Packet>, R: Store<Attempt>, K: Store<u8>>(
     owner: u8,
     attempt: Attempt,
 ) -> Result<Action, RigFault>
-    requires fact_1 { (length records.old ≡ 64) × (owner < 64) }
+    requires { (length records.old ≡ 64) × (owner < 64) }
     ensures answer { let s : State = state_of rig.old fates.now (W.meaning wire.old) (R.meaning resend.old) (K.meaning keepalive.now) records.old in result ≡ (resend_rule s owner attempt).answer }
     ensures after { let s : State = state_of rig.old fates.now (W.meaning wire.old) (R.meaning resend.old) (K.meaning keepalive.now) records.old in state_of rig.new fates.now (W.meaning wire.new) (R.meaning resend.new) (K.meaning keepalive.now) records.new ≡ (resend_rule s owner attempt).after }
     ensures wire { (W.lenders wire.new ≡ W.lenders wire.old) × (W.beyond wire.new ≡ W.beyond wire.old) }
@@ -57,9 +57,9 @@ pub fn resend_due<W: Store<Packet>, R: Store<Attempt>, K: Store<u8>>(
     fates: &[u16],
     entry: Expired<Attempt>,
 ) -> Result<Action, RigFault>
-    requires fact_1 { length records.old ≡ 64 }
-    ensures answer { let s : State = state_of rig.old fates.now (W.meaning wire.old) (R.meaning resend.old) (K.meaning keepalive.now) records.old in result ≡ (resend-entry s entry).answer }
-    ensures after { let s : State = state_of rig.old fates.now (W.meaning wire.old) (R.meaning resend.old) (K.meaning keepalive.now) records.old in state_of rig.new fates.now (W.meaning wire.new) (R.meaning resend.new) (K.meaning keepalive.now) records.new ≡ (resend-entry s entry).after }
+    requires { length records.old ≡ 64 }
+    ensures answer { let s : State = state_of rig.old fates.now (W.meaning wire.old) (R.meaning resend.old) (K.meaning keepalive.now) records.old in result ≡ (resend_entry s entry).answer }
+    ensures after { let s : State = state_of rig.old fates.now (W.meaning wire.old) (R.meaning resend.old) (K.meaning keepalive.now) records.old in state_of rig.new fates.now (W.meaning wire.new) (R.meaning resend.new) (K.meaning keepalive.now) records.new ≡ (resend_entry s entry).after }
     ensures wire { (W.lenders wire.new ≡ W.lenders wire.old) × (W.beyond wire.new ≡ W.beyond wire.old) }
     ensures resend { (R.lenders resend.new ≡ R.lenders resend.old) × (R.beyond resend.new ≡ R.beyond resend.old) }
 {
@@ -92,7 +92,7 @@ fn beat_open<W: Store<Packet>, R: Store<Attempt>, K: Store<u8>>(
     fates: &[u16],
     owner: u8,
 ) -> Result<Action, RigFault>
-    requires fact_1 { (length records.old ≡ 64) × (owner < 64) }
+    requires { (length records.old ≡ 64) × (owner < 64) }
     ensures answer { let s : State = state_of rig.old fates.now (W.meaning wire.old) (R.meaning resend.now) (K.meaning keepalive.old) records.old in result ≡ (beat_rule s owner).answer }
     ensures after { let s : State = state_of rig.old fates.now (W.meaning wire.old) (R.meaning resend.now) (K.meaning keepalive.old) records.old in state_of rig.new fates.now (W.meaning wire.new) (R.meaning resend.now) (K.meaning keepalive.new) records.new ≡ (beat_rule s owner).after }
     ensures wire { (W.lenders wire.new ≡ W.lenders wire.old) × (W.beyond wire.new ≡ W.beyond wire.old) }
@@ -124,9 +124,9 @@ pub fn beat_due<W: Store<Packet>, R: Store<Attempt>, K: Store<u8>>(
     fates: &[u16],
     entry: Expired<u8>,
 ) -> Result<Action, RigFault>
-    requires fact_1 { length records.old ≡ 64 }
-    ensures answer { let s : State = state_of rig.old fates.now (W.meaning wire.old) (R.meaning resend.now) (K.meaning keepalive.old) records.old in result ≡ (beat-entry s entry).answer }
-    ensures after { let s : State = state_of rig.old fates.now (W.meaning wire.old) (R.meaning resend.now) (K.meaning keepalive.old) records.old in state_of rig.new fates.now (W.meaning wire.new) (R.meaning resend.now) (K.meaning keepalive.new) records.new ≡ (beat-entry s entry).after }
+    requires { length records.old ≡ 64 }
+    ensures answer { let s : State = state_of rig.old fates.now (W.meaning wire.old) (R.meaning resend.now) (K.meaning keepalive.old) records.old in result ≡ (beat_entry s entry).answer }
+    ensures after { let s : State = state_of rig.old fates.now (W.meaning wire.old) (R.meaning resend.now) (K.meaning keepalive.old) records.old in state_of rig.new fates.now (W.meaning wire.new) (R.meaning resend.now) (K.meaning keepalive.new) records.new ≡ (beat_entry s entry).after }
     ensures wire { (W.lenders wire.new ≡ W.lenders wire.old) × (W.beyond wire.new ≡ W.beyond wire.old) }
     ensures keepalive { (K.lenders keepalive.new ≡ K.lenders keepalive.old) × (K.beyond keepalive.new ≡ K.beyond keepalive.old) }
 {

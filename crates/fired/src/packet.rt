@@ -35,7 +35,7 @@ pub(crate) fn data<W: Store<Packet>, R: Store<Attempt>, K: Store<u8>>(
     owner: u8,
     segment: Segment,
 ) -> Action
-    requires fact_1 { (length records.old ≡ 64) × (owner < 64) }
+    requires { (length records.old ≡ 64) × (owner < 64) }
     ensures answer { let s : State = state_of rig.old fates.now (W.meaning wire.old) (R.meaning resend.now) (K.meaning keepalive.now) records.old in Ok result ≡ (data_rule s owner segment).answer }
     ensures after { let s : State = state_of rig.old fates.now (W.meaning wire.old) (R.meaning resend.now) (K.meaning keepalive.now) records.old in state_of rig.new fates.now (W.meaning wire.new) (R.meaning resend.now) (K.meaning keepalive.now) records.new ≡ (data_rule s owner segment).after }
     ensures wire { (W.lenders wire.new ≡ W.lenders wire.old) × (W.beyond wire.new ≡ W.beyond wire.old) }
@@ -72,7 +72,7 @@ pub(crate) fn acknowledgement<W: Store<Packet>, R: Store<Attempt>, K: Store<u8>>
     owner: u8,
     sequence: u32,
 ) -> Action
-    requires fact_1 { (length records.old ≡ 64) × (owner < 64) }
+    requires { (length records.old ≡ 64) × (owner < 64) }
     ensures answer { let s : State = state_of rig.now fates.now (W.meaning wire.now) (R.meaning resend.old) (K.meaning keepalive.now) records.old in Ok result ≡ (acknowledgement_rule s owner sequence).answer }
     ensures after { let s : State = state_of rig.now fates.now (W.meaning wire.now) (R.meaning resend.old) (K.meaning keepalive.now) records.old in state_of rig.now fates.now (W.meaning wire.now) (R.meaning resend.new) (K.meaning keepalive.now) records.new ≡ (acknowledgement_rule s owner sequence).after }
     ensures resend { (R.lenders resend.new ≡ R.lenders resend.old) × (R.beyond resend.new ≡ R.beyond resend.old) }

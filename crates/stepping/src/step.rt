@@ -39,7 +39,7 @@ fn proceed<W: Store<Packet>, R: Store<Attempt>, K: Store<u8>>(
     records: &mut [Channel],
     fates: &[u16],
 ) -> Result<Action, RigFault>
-    requires fact_1 { length records.old ≡ 64 }
+    requires { length records.old ≡ 64 }
     ensures answer { let s : State = state_of rig.old fates.now (W.meaning wire.old) (R.meaning resend.old) (K.meaning keepalive.old) records.old in result ≡ (moved s).answer }
     ensures after { let s : State = state_of rig.old fates.now (W.meaning wire.old) (R.meaning resend.old) (K.meaning keepalive.old) records.old in state_of rig.new fates.now (W.meaning wire.new) (R.meaning resend.new) (K.meaning keepalive.new) records.new ≡ (moved s).after }
     ensures wire { (W.lenders wire.new ≡ W.lenders wire.old) × (W.beyond wire.new ≡ W.beyond wire.old) }
@@ -67,7 +67,7 @@ pub fn step<W: Store<Packet>, R: Store<Attempt>, K: Store<u8>>(
     records: &mut [Channel],
     fates: &[u16],
 ) -> Result<Action, RigFault>
-    requires fact_1 { length records.old ≡ 64 }
+    requires { length records.old ≡ 64 }
     ensures answer { let s : State = state_of rig.old fates.now (W.meaning wire.old) (R.meaning resend.old) (K.meaning keepalive.old) records.old in result ≡ (step_body s).answer }
     ensures after { let s : State = state_of rig.old fates.now (W.meaning wire.old) (R.meaning resend.old) (K.meaning keepalive.old) records.old in state_of rig.new fates.now (W.meaning wire.new) (R.meaning resend.new) (K.meaning keepalive.new) records.new ≡ (step_body s).after }
     ensures wire { (W.lenders wire.new ≡ W.lenders wire.old) × (W.beyond wire.new ≡ W.beyond wire.old) }

@@ -31,7 +31,7 @@ pub(crate) fn tick<W: Store<Packet>, R: Store<Attempt>, K: Store<u8>>(
     records: &[Channel],
     fates: &[u16],
 ) -> Result<Action, RigFault>
-    requires fact_1 { length records.now ≡ 64 }
+    requires { length records.now ≡ 64 }
     ensures answer { let s : State = state_of rig.now fates.now (W.meaning wire.old) (R.meaning resend.old) (K.meaning keepalive.old) records.now in result ≡ (tick_rule s).answer }
     ensures after { let s : State = state_of rig.now fates.now (W.meaning wire.old) (R.meaning resend.old) (K.meaning keepalive.old) records.now in state_of rig.now fates.now (W.meaning wire.new) (R.meaning resend.new) (K.meaning keepalive.new) records.now ≡ (tick_rule s).after }
     ensures wire { (W.lenders wire.new ≡ W.lenders wire.old) × (W.beyond wire.new ≡ W.beyond wire.old) }
