@@ -1,5 +1,5 @@
 -- What an answer of check says.
-use Rattle.std.proofs.Common.{◌≡◌, ℕ, suc, ◌<◌, ◌≤◌, Bool, true, false, cond, eqb, ltb, leb, ◌≢◌, [], ◌∷◌, length, get_or, Some, None, Option, sym, refl, ap, ◌∙◌, subst, ⊎_elim, arith, lit<}
+use Rattle.std.proofs.Common.{◌≡◌, ℕ, suc, ◌<◌, ◌≤◌, Bool, true, false, if◌then◌else◌, eqb, ltb, leb, ◌≢◌, [], ◌∷◌, length, get_or, Some, None, Option, sym, refl, ap, ◌∙◌, subst, ⊎_elim, arith, lit<}
 use Rattle.std.proofs.lemmas.Bool.{cases_Bool, cases_lt}
 use Rattle.std.proofs.lemmas.Bool.Decides.{nat_tests}
 use Rattle.timer.specs.declared.fault.TimerFault.{TimerFault}
@@ -101,7 +101,7 @@ clear_more hit f c h g l =
     (cases_lt (fault_number g) (fault_number f))
 
 -- one more test
-lowest_step : (hit : TimerFault → Bool) (f : TimerFault) (rest : Option TimerFault) → Clear hit (fault_number f) → (Clear hit (suc (fault_number f)) → Lowest hit rest) → Lowest hit (cond (hit f) (Some f) rest)
+lowest_step : (hit : TimerFault → Bool) (f : TimerFault) (rest : Option TimerFault) → Clear hit (fault_number f) → (Clear hit (suc (fault_number f)) → Lowest hit rest) → Lowest hit (if hit f then Some f else rest)
 lowest_step hit f rest c more =
     ⊎_elim
     (λ (h : hit f ≡ true). rw h (h, c))

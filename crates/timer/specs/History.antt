@@ -1,5 +1,5 @@
 -- Histories: lists of calls of one store, what they do to its timers, and the laws that hold of that.
-use Rattle.std.specs.Prelude.{◌≡◌, ℕ, ◌+◌, ◌<◌, ◌≤◌, cond, ◌⊎◌, List, [], ◌∷◌, ◌++◌, ◌==◌}
+use Rattle.std.specs.Prelude.{◌≡◌, ℕ, ◌+◌, ◌<◌, ◌≤◌, if◌then◌else◌, ◌⊎◌, List, [], ◌∷◌, ◌++◌, ◌==◌}
 use Rattle.timer.specs.declared.call.Answer.{Answer}
 use Rattle.timer.specs.declared.call.Answer.TheVariants as answer
 use Rattle.timer.specs.declared.call.Call.{Call}
@@ -48,19 +48,19 @@ Before x y (z ∷ zs) = ((z ≡ x) × In y zs) ⊎ Before x y zs
 -- how often a ticket is pending, was stopped, has fired
 abbrev pub times_pending : {P : Type 0} → ℕ → List (Entry P) → ℕ
 times_pending t [] = 0
-times_pending t (e ∷ es) = cond (e.ticket == t) (times_pending t es + 1) (times_pending t es)
+times_pending t (e ∷ es) = if e.ticket == t then times_pending t es + 1 else times_pending t es
 
 abbrev pub times_stopped : ℕ → List Event → ℕ
 times_stopped t [] = 0
 times_stopped t (Started u d ∷ es) = times_stopped t es
-times_stopped t (Stopped u ∷ es) = cond (u == t) (times_stopped t es + 1) (times_stopped t es)
+times_stopped t (Stopped u ∷ es) = if u == t then times_stopped t es + 1 else times_stopped t es
 times_stopped t (Fired u k ∷ es) = times_stopped t es
 
 abbrev pub times_fired : ℕ → List Event → ℕ
 times_fired t [] = 0
 times_fired t (Started u d ∷ es) = times_fired t es
 times_fired t (Stopped u ∷ es) = times_fired t es
-times_fired t (Fired u k ∷ es) = cond (u == t) (times_fired t es + 1) (times_fired t es)
+times_fired t (Fired u k ∷ es) = if u == t then times_fired t es + 1 else times_fired t es
 
 -- a store that has given no ticket
 pub record Fresh {P : Type 0} (m : Meaning P) : Type 0 where

@@ -1,5 +1,5 @@
 -- What each call answers, what the store means afterwards, and what happened to which timer.
-use Rattle.std.specs.Prelude.{◌≡◌, ℕ, ◌+◌, ◌<◌, Bool, true, false, cond, List, [], ◌∷◌, ◌++◌, length, is_some, Some, None, Ok, Err, Option, Result, ◌==◌, nat_le, nat_lt, slice_index}
+use Rattle.std.specs.Prelude.{◌≡◌, ℕ, ◌+◌, ◌<◌, Bool, true, false, if◌then◌else◌, List, [], ◌∷◌, ◌++◌, length, is_some, Some, None, Ok, Err, Option, Result, ◌==◌, nat_le, nat_lt, slice_index}
 use Rattle.timer.specs.declared.expired.Expired.{Expired}
 use Rattle.timer.specs.declared.fault.TimerFault.{TimerFault}
 use Rattle.timer.specs.declared.fault.TimerFault.TheVariants.{Past, Late, Owner, Spent, Full, Limit, Missing, Due, Ended}
@@ -20,32 +20,32 @@ pub record Outcome (A P : Type 0) : Type 0 where
 -- how many of the entries are the owner's
 abbrev pub count : {P : Type 0} → ℕ → List (Entry P) → ℕ
 count o [] = 0
-count o (e ∷ es) = cond (e.owner == o) (count o es + 1) (count o es)
+count o (e ∷ es) = if e.owner == o then count o es + 1 else count o es
 
 -- the entry with the ticket
 abbrev pub find : {P : Type 0} → ℕ → List (Entry P) → Option (Entry P)
 find t [] = None
-find t (e ∷ es) = cond (e.ticket == t) (Some e) (find t es)
+find t (e ∷ es) = if e.ticket == t then Some e else find t es
 
 -- the entries but for the one with the ticket
 abbrev pub without : {P : Type 0} → ℕ → List (Entry P) → List (Entry P)
 without t [] = []
-without t (e ∷ es) = cond (e.ticket == t) es (e ∷ without t es)
+without t (e ∷ es) = if e.ticket == t then es else e ∷ without t es
 
 -- the first entry whose deadline is the tick: the one with the lowest ticket, since entries stand in the order of their tickets
 abbrev pub due_entry : {P : Type 0} → ℕ → List (Entry P) → Option (Entry P)
 due_entry n [] = None
-due_entry n (e ∷ es) = cond (e.deadline == n) (Some e) (due_entry n es)
+due_entry n (e ∷ es) = if e.deadline == n then Some e else due_entry n es
 
 -- the questions
 abbrev pub due_rule : {P : Type 0} → Meaning P → Bool
 due_rule m = is_some (due_entry m.now m.pending)
 
 abbrev pub limit_rule : {P : Type 0} → Meaning P → ℕ → ℕ
-limit_rule m o = cond (nat_lt o 64) (slice_index m.limits o) 0
+limit_rule m o = if nat_lt o 64 then slice_index m.limits o else 0
 
 abbrev pub count_rule : {P : Type 0} → Meaning P → ℕ → ℕ
-count_rule m o = cond (nat_lt o 64) (count o m.pending) 0
+count_rule m o = if nat_lt o 64 then count o m.pending else 0
 
 -- whether a refusal of a start applies
 abbrev pub applies : {P : Type 0} → Meaning P → ℕ → ℕ → TimerFault → Bool
@@ -62,7 +62,7 @@ applies m deadline owner Ended = false
 -- the first of some refusals that a test hits
 abbrev pub first_of : (TimerFault → Bool) → List TimerFault → Option TimerFault
 first_of hit [] = None
-first_of hit (f ∷ fs) = cond (hit f) (Some f) (first_of hit fs)
+first_of hit (f ∷ fs) = if hit f then Some f else first_of hit fs
 
 -- what check answers
 unfoldable pub check_rule : {P : Type 0} → Meaning P → ℕ → ℕ → Option TimerFault
@@ -142,5 +142,4 @@ ticked m =
 
 abbrev pub advance_rule : {P : Type 0} → Meaning P → Outcome (Result (Unit {0}) TimerFault) P
 advance_rule m =
-    cond (due_rule m) (refused m Due)
-    (cond (m.now == m.last) (refused m Ended) (record { answer = Ok tt; after = ticked m; events = [] }))
+    if due_rule m then refused m Due else (if m.now == m.last then refused m Ended else record { answer = Ok tt; after = ticked m; events = [] })

@@ -96,8 +96,7 @@ pub fn check_number<P: Copy, S: Store<P>>(store: &S, deadline: u32, owner: u8) -
     ensures value { result ≡ checked_number (check_rule (S.meaning store.now) deadline owner) }
     ensures lowest { Lowest (applies (S.meaning store.now) deadline owner) (check_rule (S.meaning store.now) deadline owner) }
 {
-    match store.check(deadline, owner) {
-        Some(fault) => fault.number(),
-        None => 0,
-    }
+    store
+        .check(deadline, owner)
+        .map_or(0, |fault| fault.number())
 }
