@@ -1,4 +1,5 @@
 ghost use Rattle.std.specs.Prelude.{◌≡◌};
+ghost use Rattle.timer.specs.Frame.{Framed};
 ghost use Rattle.timer.specs.Rules.{stop_rule};
 ghost use Rattle.protocol.specs.Rules.{place_cancelled, all_cancelled};
 
@@ -10,8 +11,7 @@ use timer::store::Store;
 pub fn cancel<P, S: Store<P>>(store: &mut S, ticket: u32) -> Result<(u8, P), TimerFault>
     ensures answer { result ≡ (stop_rule (S.meaning store.old) ticket).answer }
     ensures after { S.meaning store.new ≡ (stop_rule (S.meaning store.old) ticket).after }
-    ensures lenders { S.lenders store.new ≡ S.lenders store.old }
-    ensures beyond { S.beyond store.new ≡ S.beyond store.old }
+    ensures framed { Framed S.Store store.old store.new }
 {
     store.stop(ticket)
 }
@@ -19,8 +19,7 @@ pub fn cancel<P, S: Store<P>>(store: &mut S, ticket: u32) -> Result<(u8, P), Tim
 // Stops the resend timer of a place that waits.
 fn cancel_place<R: Store<Attempt>>(resend: &mut R, place: SendPlace)
     ensures after { R.meaning resend.new ≡ (place_cancelled place (R.meaning resend.old)).after }
-    ensures lenders { R.lenders resend.new ≡ R.lenders resend.old }
-    ensures beyond { R.beyond resend.new ≡ R.beyond resend.old }
+    ensures framed { Framed R.Store resend.old resend.new }
 {
     if let SendPlace::Waiting(ticket) = place {
         let _ = cancel(resend, ticket);
@@ -30,8 +29,7 @@ fn cancel_place<R: Store<Attempt>>(resend: &mut R, place: SendPlace)
 /// Stops the resend timers of all places that wait.
 pub fn cancel_all<R: Store<Attempt>>(resend: &mut R, places: [SendPlace; 8])
     ensures after { R.meaning resend.new ≡ (all_cancelled places (R.meaning resend.old)).after }
-    ensures lenders { R.lenders resend.new ≡ R.lenders resend.old }
-    ensures beyond { R.beyond resend.new ≡ R.beyond resend.old }
+    ensures framed { Framed R.Store resend.old resend.new }
 {
     for place in places {
         cancel_place(resend, place);

@@ -1,4 +1,5 @@
 ghost use Rattle.std.specs.Prelude.{◌≡◌, ◌+◌, ◌<◌, ◌≤◌};
+ghost use Rattle.timer.specs.Frame.{Framed};
 ghost use Rattle.link.specs.Fate.{fate_delay};
 ghost use Rattle.channel.specs.Record.{stop};
 ghost use Rattle.timer.specs.Rules.{start_rule};
@@ -23,8 +24,7 @@ fn carry_copy<W: Store<Packet>>(
     ensures value { result ≡ counted (start_rule (W.meaning wire.old) deadline owner packet).answer accepted }
     ensures most { result ≤ accepted + 1 }
     ensures after { W.meaning wire.new ≡ (start_rule (W.meaning wire.old) deadline owner packet).after }
-    ensures lenders { W.lenders wire.new ≡ W.lenders wire.old }
-    ensures beyond { W.beyond wire.new ≡ W.beyond wire.old }
+    ensures framed { Framed W.Store wire.old wire.new }
 {
     match wire.start(deadline, owner, packet) {
         Ok(_) => accepted + 1,
@@ -36,8 +36,7 @@ fn carry_copy<W: Store<Packet>>(
 fn carry<W: Store<Packet>>(wire: &mut W, fate: u16, owner: u8, packet: Packet) -> u8
     ensures value { result ≡ (carry fate (W.meaning wire.old) owner packet).copies }
     ensures after { W.meaning wire.new ≡ (carry fate (W.meaning wire.old) owner packet).after }
-    ensures lenders { W.lenders wire.new ≡ W.lenders wire.old }
-    ensures beyond { W.beyond wire.new ≡ W.beyond wire.old }
+    ensures framed { Framed W.Store wire.old wire.new }
 {
     let deadline = wire.now().saturating_add(delay(fate) as u32);
     let mut accepted = 0;
@@ -66,8 +65,7 @@ impl Rig {
         ensures value { result ≡ record { packet = self.old.packets; delay = fate_delay (own_fate self.old fates.now); copies = (carry (own_fate self.old fates.now) (W.meaning wire.old) owner packet).copies } }
         ensures after { W.meaning wire.new ≡ (carry (own_fate self.old fates.now) (W.meaning wire.old) owner packet).after }
         ensures counted { self.new ≡ record { delay = self.old.delay; interval = self.old.interval; fates = self.old.fates; packets = stop (self.old.packets + 1) } }
-        ensures lenders { W.lenders wire.new ≡ W.lenders wire.old }
-        ensures beyond { W.beyond wire.new ≡ W.beyond wire.old }
+        ensures framed { Framed W.Store wire.old wire.new }
     {
         let number = self.packets;
         let fate = self.fate(fates);

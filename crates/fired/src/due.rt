@@ -1,4 +1,5 @@
 ghost use Rattle.std.specs.Prelude.{◌≡◌, ◌<◌, length};
+ghost use Rattle.timer.specs.Frame.{Framed};
 ghost use Rattle.protocol.specs.State.{State};
 ghost use Rattle.protocol.specs.Rules.{resend_rule, resend as resend_entry, beat_rule, beat as beat_entry};
 ghost use Rattle.engine.specs.Parts.{state_of};
@@ -28,8 +29,8 @@ fn resend_open<W: Store<Packet>, R: Store<Attempt>, K: Store<u8>>(
     requires { (length records.old ≡ 64) × (owner < 64) }
     ensures answer { let s : State = state_of rig.old fates.now (W.meaning wire.old) (R.meaning resend.old) (K.meaning keepalive.now) records.old in result ≡ (resend_rule s owner attempt).answer }
     ensures after { let s : State = state_of rig.old fates.now (W.meaning wire.old) (R.meaning resend.old) (K.meaning keepalive.now) records.old in state_of rig.new fates.now (W.meaning wire.new) (R.meaning resend.new) (K.meaning keepalive.now) records.new ≡ (resend_rule s owner attempt).after }
-    ensures wire { (W.lenders wire.new ≡ W.lenders wire.old) × (W.beyond wire.new ≡ W.beyond wire.old) }
-    ensures resend { (R.lenders resend.new ≡ R.lenders resend.old) × (R.beyond resend.new ≡ R.beyond resend.old) }
+    ensures wire { Framed W.Store wire.old wire.new }
+    ensures resend { Framed R.Store resend.old resend.new }
 {
     let index = owner as usize;
     let record = records[index].read();
@@ -60,8 +61,8 @@ pub fn resend_due<W: Store<Packet>, R: Store<Attempt>, K: Store<u8>>(
     requires { length records.old ≡ 64 }
     ensures answer { let s : State = state_of rig.old fates.now (W.meaning wire.old) (R.meaning resend.old) (K.meaning keepalive.now) records.old in result ≡ (resend_entry s entry).answer }
     ensures after { let s : State = state_of rig.old fates.now (W.meaning wire.old) (R.meaning resend.old) (K.meaning keepalive.now) records.old in state_of rig.new fates.now (W.meaning wire.new) (R.meaning resend.new) (K.meaning keepalive.now) records.new ≡ (resend_entry s entry).after }
-    ensures wire { (W.lenders wire.new ≡ W.lenders wire.old) × (W.beyond wire.new ≡ W.beyond wire.old) }
-    ensures resend { (R.lenders resend.new ≡ R.lenders resend.old) × (R.beyond resend.new ≡ R.beyond resend.old) }
+    ensures wire { Framed W.Store wire.old wire.new }
+    ensures resend { Framed R.Store resend.old resend.new }
 {
     if live(records, entry.owner) {
         return resend_open(
@@ -95,8 +96,8 @@ fn beat_open<W: Store<Packet>, R: Store<Attempt>, K: Store<u8>>(
     requires { (length records.old ≡ 64) × (owner < 64) }
     ensures answer { let s : State = state_of rig.old fates.now (W.meaning wire.old) (R.meaning resend.now) (K.meaning keepalive.old) records.old in result ≡ (beat_rule s owner).answer }
     ensures after { let s : State = state_of rig.old fates.now (W.meaning wire.old) (R.meaning resend.now) (K.meaning keepalive.old) records.old in state_of rig.new fates.now (W.meaning wire.new) (R.meaning resend.now) (K.meaning keepalive.new) records.new ≡ (beat_rule s owner).after }
-    ensures wire { (W.lenders wire.new ≡ W.lenders wire.old) × (W.beyond wire.new ≡ W.beyond wire.old) }
-    ensures keepalive { (K.lenders keepalive.new ≡ K.lenders keepalive.old) × (K.beyond keepalive.new ≡ K.beyond keepalive.old) }
+    ensures wire { Framed W.Store wire.old wire.new }
+    ensures keepalive { Framed K.Store keepalive.old keepalive.new }
 {
     let index = owner as usize;
     let record = records[index].read();
@@ -127,8 +128,8 @@ pub fn beat_due<W: Store<Packet>, R: Store<Attempt>, K: Store<u8>>(
     requires { length records.old ≡ 64 }
     ensures answer { let s : State = state_of rig.old fates.now (W.meaning wire.old) (R.meaning resend.now) (K.meaning keepalive.old) records.old in result ≡ (beat_entry s entry).answer }
     ensures after { let s : State = state_of rig.old fates.now (W.meaning wire.old) (R.meaning resend.now) (K.meaning keepalive.old) records.old in state_of rig.new fates.now (W.meaning wire.new) (R.meaning resend.now) (K.meaning keepalive.new) records.new ≡ (beat_entry s entry).after }
-    ensures wire { (W.lenders wire.new ≡ W.lenders wire.old) × (W.beyond wire.new ≡ W.beyond wire.old) }
-    ensures keepalive { (K.lenders keepalive.new ≡ K.lenders keepalive.old) × (K.beyond keepalive.new ≡ K.beyond keepalive.old) }
+    ensures wire { Framed W.Store wire.old wire.new }
+    ensures keepalive { Framed K.Store keepalive.old keepalive.new }
 {
     if live(records, entry.owner) {
         return beat_open(rig, wire, resend, keepalive, records, fates, entry.owner);

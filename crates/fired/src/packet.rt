@@ -1,4 +1,5 @@
 ghost use Rattle.std.specs.Prelude.{◌≡◌, ◌<◌, length, Ok};
+ghost use Rattle.timer.specs.Frame.{Framed};
 ghost use Rattle.timer.specs.Rules.{stop_rule};
 ghost use Rattle.protocol.specs.State.{State};
 ghost use Rattle.protocol.specs.Rules.{data_rule, acknowledgement_rule, sample_of};
@@ -15,8 +16,7 @@ use trace::action::{Action, Segment};
 fn stop_attempt<R: Store<Attempt>>(resend: &mut R, ticket: u32, tick: u32) -> Option<u32>
     ensures sample { result ≡ sample_of (stop_rule (R.meaning resend.old) ticket).answer tick }
     ensures after { R.meaning resend.new ≡ (stop_rule (R.meaning resend.old) ticket).after }
-    ensures lenders { R.lenders resend.new ≡ R.lenders resend.old }
-    ensures beyond { R.beyond resend.new ≡ R.beyond resend.old }
+    ensures framed { Framed R.Store resend.old resend.new }
 {
     match cancel(resend, ticket) {
         Ok((_, attempt)) => attempt.sample(tick),
@@ -38,7 +38,7 @@ pub(crate) fn data<W: Store<Packet>, R: Store<Attempt>, K: Store<u8>>(
     requires { (length records.old ≡ 64) × (owner < 64) }
     ensures answer { let s : State = state_of rig.old fates.now (W.meaning wire.old) (R.meaning resend.now) (K.meaning keepalive.now) records.old in Ok result ≡ (data_rule s owner segment).answer }
     ensures after { let s : State = state_of rig.old fates.now (W.meaning wire.old) (R.meaning resend.now) (K.meaning keepalive.now) records.old in state_of rig.new fates.now (W.meaning wire.new) (R.meaning resend.now) (K.meaning keepalive.now) records.new ≡ (data_rule s owner segment).after }
-    ensures wire { (W.lenders wire.new ≡ W.lenders wire.old) × (W.beyond wire.new ≡ W.beyond wire.old) }
+    ensures wire { Framed W.Store wire.old wire.new }
 {
     let index = owner as usize;
     let record = records[index].read();
@@ -75,7 +75,7 @@ pub(crate) fn acknowledgement<W: Store<Packet>, R: Store<Attempt>, K: Store<u8>>
     requires { (length records.old ≡ 64) × (owner < 64) }
     ensures answer { let s : State = state_of rig.now fates.now (W.meaning wire.now) (R.meaning resend.old) (K.meaning keepalive.now) records.old in Ok result ≡ (acknowledgement_rule s owner sequence).answer }
     ensures after { let s : State = state_of rig.now fates.now (W.meaning wire.now) (R.meaning resend.old) (K.meaning keepalive.now) records.old in state_of rig.now fates.now (W.meaning wire.now) (R.meaning resend.new) (K.meaning keepalive.now) records.new ≡ (acknowledgement_rule s owner sequence).after }
-    ensures resend { (R.lenders resend.new ≡ R.lenders resend.old) × (R.beyond resend.new ≡ R.beyond resend.old) }
+    ensures resend { Framed R.Store resend.old resend.new }
 {
     let index = owner as usize;
     let record = records[index].read();

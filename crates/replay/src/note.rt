@@ -1,4 +1,5 @@
 ghost use Rattle.std.specs.Prelude.{◌≡◌, [], ◌∷◌, ◌++◌, take, drop, MatchResult};
+ghost use Rattle.timer.specs.Frame.{Framed};
 ghost use Rattle.transport.specs.Parts.{state_of};
 ghost use Rattle.session.specs.Run.{call_answer, call_after, note_of};
 
@@ -24,9 +25,9 @@ pub(crate) fn note<W: Store<Packet>, R: Store<Attempt>, K: Store<u8>>(
 ) -> Result<Answer, AllocError>
     ensures cases { MatchResult result (λ a. (a ≡ call_answer (state_of rig.old fates.now (W.meaning wire.old) (R.meaning resend.old) (K.meaning keepalive.old) (take 64 table.old)) call) × (state_of rig.new fates.now (W.meaning wire.new) (R.meaning resend.new) (K.meaning keepalive.new) (take 64 table.new) ≡ call_after (state_of rig.old fates.now (W.meaning wire.old) (R.meaning resend.old) (K.meaning keepalive.old) (take 64 table.old)) call) × (notes.new.items ≡ notes.old.items ++ note_of (state_of rig.old fates.now (W.meaning wire.old) (R.meaning resend.old) (K.meaning keepalive.old) (take 64 table.old)) call ∷ [])) (λ _. (state_of rig.new fates.now (W.meaning wire.new) (R.meaning resend.new) (K.meaning keepalive.new) (take 64 table.new) ≡ state_of rig.old fates.now (W.meaning wire.old) (R.meaning resend.old) (K.meaning keepalive.old) (take 64 table.old)) × (notes.new.items ≡ notes.old.items)) }
     ensures later { drop 64 table.new ≡ drop 64 table.old }
-    ensures wire { (W.lenders wire.new ≡ W.lenders wire.old) × (W.beyond wire.new ≡ W.beyond wire.old) }
-    ensures resend { (R.lenders resend.new ≡ R.lenders resend.old) × (R.beyond resend.new ≡ R.beyond resend.old) }
-    ensures keepalive { (K.lenders keepalive.new ≡ K.lenders keepalive.old) × (K.beyond keepalive.new ≡ K.beyond keepalive.old) }
+    ensures wire { Framed W.Store wire.old wire.new }
+    ensures resend { Framed R.Store resend.old resend.new }
+    ensures keepalive { Framed K.Store keepalive.old keepalive.new }
 {
     notes.reserve(1)?;
     let answer = perform(rig, wire, resend, keepalive, table, fates, call);

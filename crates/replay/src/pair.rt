@@ -1,4 +1,5 @@
 ghost use Rattle.std.specs.Prelude.{◌≡◌, length, drop};
+ghost use Rattle.timer.specs.Frame.{Framed};
 ghost use Rattle.protocol.specs.Begin.{begin_check};
 ghost use Rattle.replay.specs.Alike.{Alike, Both};
 ghost use Rattle.replay.specs.Outcome.{Outcome};
@@ -52,13 +53,13 @@ pub fn run_pair<
     ensures second { Outcome (begin_check other_draft.delay other_draft.interval (X.meaning other_wire.old) (S.meaning other_resend.old) (L.meaning other_keepalive.old) (length other_table.old)) other_draft other_fates.now commands.now (record { wire = X.meaning other_wire.old; resend = S.meaning other_resend.old; keepalive = L.meaning other_keepalive.old; table = other_table.old }) result.second (record { wire = X.meaning other_wire.new; resend = S.meaning other_resend.new; keepalive = L.meaning other_keepalive.new; table = other_table.new }) }
     ensures alike { Alike draft other_draft fates.now other_fates.now (record { wire = W.meaning wire.entry.now; resend = R.meaning resend.old; keepalive = K.meaning keepalive.old; table = table.old }) (record { wire = X.meaning other_wire.old; resend = S.meaning other_resend.old; keepalive = L.meaning other_keepalive.old; table = other_table.old }) → Both result.first result.second }
     ensures later { drop 64 table.new ≡ drop 64 table.old }
-    ensures wire { (W.lenders wire.new ≡ W.lenders wire.old) × (W.beyond wire.new ≡ W.beyond wire.old) }
-    ensures resend { (R.lenders resend.new ≡ R.lenders resend.old) × (R.beyond resend.new ≡ R.beyond resend.old) }
-    ensures keepalive { (K.lenders keepalive.new ≡ K.lenders keepalive.old) × (K.beyond keepalive.new ≡ K.beyond keepalive.old) }
+    ensures wire { Framed W.Store wire.old wire.new }
+    ensures resend { Framed R.Store resend.old resend.new }
+    ensures keepalive { Framed K.Store keepalive.old keepalive.new }
     ensures other_later { drop 64 other_table.new ≡ drop 64 other_table.old }
-    ensures other_wire { (X.lenders other_wire.new ≡ X.lenders other_wire.old) × (X.beyond other_wire.new ≡ X.beyond other_wire.old) }
-    ensures other_resend { (S.lenders other_resend.new ≡ S.lenders other_resend.old) × (S.beyond other_resend.new ≡ S.beyond other_resend.old) }
-    ensures other_keepalive { (L.lenders other_keepalive.new ≡ L.lenders other_keepalive.old) × (L.beyond other_keepalive.new ≡ L.beyond other_keepalive.old) }
+    ensures other_wire { Framed X.Store other_wire.old other_wire.new }
+    ensures other_resend { Framed S.Store other_resend.old other_resend.new }
+    ensures other_keepalive { Framed L.Store other_keepalive.old other_keepalive.new }
 {
     let first = run(heap, draft, wire, resend, keepalive, table, fates, commands);
     let second = run(

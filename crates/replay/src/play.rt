@@ -1,4 +1,5 @@
 ghost use Rattle.std.specs.Prelude.{◌≡◌, take, drop, is_ok};
+ghost use Rattle.timer.specs.Frame.{Framed};
 ghost use Rattle.protocol.specs.State.{State};
 ghost use Rattle.timers_law.specs.Ready.{Ready};
 ghost use Rattle.transport.specs.Parts.{state_of};
@@ -29,9 +30,9 @@ fn carry_out<W: Store<Packet>, R: Store<Attempt>, K: Store<u8>>(
     requires ready { let s : State = state_of rig.old fates.now (W.meaning wire.old) (R.meaning resend.old) (K.meaning keepalive.old) (take 64 table.old) in Ready s }
     ensures went { let s : State = state_of rig.old fates.now (W.meaning wire.old) (R.meaning resend.old) (K.meaning keepalive.old) (take 64 table.old) in Went s notes.old.items (unfold_one s command) (is_ok result) (state_of rig.new fates.now (W.meaning wire.new) (R.meaning resend.new) (K.meaning keepalive.new) (take 64 table.new)) notes.new.items }
     ensures later { drop 64 table.new ≡ drop 64 table.old }
-    ensures wire { (W.lenders wire.new ≡ W.lenders wire.old) × (W.beyond wire.new ≡ W.beyond wire.old) }
-    ensures resend { (R.lenders resend.new ≡ R.lenders resend.old) × (R.beyond resend.new ≡ R.beyond resend.old) }
-    ensures keepalive { (K.lenders keepalive.new ≡ K.lenders keepalive.old) × (K.beyond keepalive.new ≡ K.beyond keepalive.old) }
+    ensures wire { Framed W.Store wire.old wire.new }
+    ensures resend { Framed R.Store resend.old resend.new }
+    ensures keepalive { Framed K.Store keepalive.old keepalive.new }
 {
     match command {
         Command::Call(call) => {
@@ -58,9 +59,9 @@ pub(crate) fn play<W: Store<Packet>, R: Store<Attempt>, K: Store<u8>>(
     requires ready { let s : State = state_of rig.old fates.now (W.meaning wire.old) (R.meaning resend.old) (K.meaning keepalive.old) (take 64 table.old) in Ready s }
     ensures went { let s : State = state_of rig.old fates.now (W.meaning wire.old) (R.meaning resend.old) (K.meaning keepalive.old) (take 64 table.old) in Went s notes.old.items (calls_of s commands.now) (is_ok result) (state_of rig.new fates.now (W.meaning wire.new) (R.meaning resend.new) (K.meaning keepalive.new) (take 64 table.new)) notes.new.items }
     ensures later { drop 64 table.new ≡ drop 64 table.old }
-    ensures wire { (W.lenders wire.new ≡ W.lenders wire.old) × (W.beyond wire.new ≡ W.beyond wire.old) }
-    ensures resend { (R.lenders resend.new ≡ R.lenders resend.old) × (R.beyond resend.new ≡ R.beyond resend.old) }
-    ensures keepalive { (K.lenders keepalive.new ≡ K.lenders keepalive.old) × (K.beyond keepalive.new ≡ K.beyond keepalive.old) }
+    ensures wire { Framed W.Store wire.old wire.new }
+    ensures resend { Framed R.Store resend.old resend.new }
+    ensures keepalive { Framed K.Store keepalive.old keepalive.new }
 {
     for command in commands {
         carry_out(rig, wire, resend, keepalive, table, fates, notes, *command)?;

@@ -1,4 +1,5 @@
 ghost use Rattle.std.specs.Prelude.{◌≡◌, length, drop};
+ghost use Rattle.timer.specs.Frame.{Framed};
 ghost use Rattle.protocol.specs.Begin.{begin_check};
 ghost use Rattle.replay.specs.Outcome.{Outcome};
 
@@ -27,9 +28,9 @@ pub fn run<W: Store<Packet>, R: Store<Attempt>, K: Store<u8>>(
 ) -> Result<Session, Stopped>
     ensures outcome { Outcome (begin_check draft.delay draft.interval (W.meaning wire.entry.now) (R.meaning resend.old) (K.meaning keepalive.old) (length table.old)) draft fates.now commands.now (record { wire = W.meaning wire.entry.now; resend = R.meaning resend.old; keepalive = K.meaning keepalive.old; table = table.old }) result (record { wire = W.meaning wire.exit.now; resend = R.meaning resend.new; keepalive = K.meaning keepalive.new; table = table.new }) }
     ensures later { drop 64 table.new ≡ drop 64 table.old }
-    ensures wire { (W.lenders wire.new ≡ W.lenders wire.old) × (W.beyond wire.new ≡ W.beyond wire.old) }
-    ensures resend { (R.lenders resend.new ≡ R.lenders resend.old) × (R.beyond resend.new ≡ R.beyond resend.old) }
-    ensures keepalive { (K.lenders keepalive.new ≡ K.lenders keepalive.old) × (K.beyond keepalive.new ≡ K.beyond keepalive.old) }
+    ensures wire { Framed W.Store wire.old wire.new }
+    ensures resend { Framed R.Store resend.old resend.new }
+    ensures keepalive { Framed K.Store keepalive.old keepalive.new }
 {
     let mut rig = draft.begin(wire, resend, keepalive, table)?;
     let mut notes = Vec::new(heap);

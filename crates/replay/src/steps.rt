@@ -1,4 +1,5 @@
 ghost use Rattle.std.specs.Prelude.{◌≡◌, ◌||◌, [], ◌∷◌, ◌++◌, take, drop, is_ok, MatchResult, nat_lt};
+ghost use Rattle.timer.specs.Frame.{Framed};
 ghost use Rattle.timer.specs.Rules.{due_rule};
 ghost use Rattle.protocol.specs.State.{State};
 ghost use Rattle.timers_law.specs.Ready.{Ready};
@@ -53,9 +54,9 @@ fn step_once<W: Store<Packet>, R: Store<Attempt>, K: Store<u8>>(
 ) -> Result<bool, AllocError>
     ensures cases { MatchResult result (λ ok. (ok ≡ is_ok (step_rule (state_of rig.old fates.now (W.meaning wire.old) (R.meaning resend.old) (K.meaning keepalive.old) (take 64 table.old))).answer) × (state_of rig.new fates.now (W.meaning wire.new) (R.meaning resend.new) (K.meaning keepalive.new) (take 64 table.new) ≡ (step_rule (state_of rig.old fates.now (W.meaning wire.old) (R.meaning resend.old) (K.meaning keepalive.old) (take 64 table.old))).after) × (notes.new.items ≡ notes.old.items ++ note_of (state_of rig.old fates.now (W.meaning wire.old) (R.meaning resend.old) (K.meaning keepalive.old) (take 64 table.old)) (Operate Step) ∷ [])) (λ _. (state_of rig.new fates.now (W.meaning wire.new) (R.meaning resend.new) (K.meaning keepalive.new) (take 64 table.new) ≡ state_of rig.old fates.now (W.meaning wire.old) (R.meaning resend.old) (K.meaning keepalive.old) (take 64 table.old)) × (notes.new.items ≡ notes.old.items)) }
     ensures later { drop 64 table.new ≡ drop 64 table.old }
-    ensures wire { (W.lenders wire.new ≡ W.lenders wire.old) × (W.beyond wire.new ≡ W.beyond wire.old) }
-    ensures resend { (R.lenders resend.new ≡ R.lenders resend.old) × (R.beyond resend.new ≡ R.beyond resend.old) }
-    ensures keepalive { (K.lenders keepalive.new ≡ K.lenders keepalive.old) × (K.beyond keepalive.new ≡ K.beyond keepalive.old) }
+    ensures wire { Framed W.Store wire.old wire.new }
+    ensures resend { Framed R.Store resend.old resend.new }
+    ensures keepalive { Framed K.Store keepalive.old keepalive.new }
 {
     let answer = note(
         rig,
@@ -84,9 +85,9 @@ pub(crate) fn step_until<W: Store<Packet>, R: Store<Attempt>, K: Store<u8>>(
     requires ready { let s : State = state_of rig.old fates.now (W.meaning wire.old) (R.meaning resend.old) (K.meaning keepalive.old) (take 64 table.old) in Ready s }
     ensures went { let s : State = state_of rig.old fates.now (W.meaning wire.old) (R.meaning resend.old) (K.meaning keepalive.old) (take 64 table.old) in Went s notes.old.items (steps_until s tick) (is_ok result) (state_of rig.new fates.now (W.meaning wire.new) (R.meaning resend.new) (K.meaning keepalive.new) (take 64 table.new)) notes.new.items }
     ensures later { drop 64 table.new ≡ drop 64 table.old }
-    ensures wire { (W.lenders wire.new ≡ W.lenders wire.old) × (W.beyond wire.new ≡ W.beyond wire.old) }
-    ensures resend { (R.lenders resend.new ≡ R.lenders resend.old) × (R.beyond resend.new ≡ R.beyond resend.old) }
-    ensures keepalive { (K.lenders keepalive.new ≡ K.lenders keepalive.old) × (K.beyond keepalive.new ≡ K.beyond keepalive.old) }
+    ensures wire { Framed W.Store wire.old wire.new }
+    ensures resend { Framed R.Store resend.old resend.new }
+    ensures keepalive { Framed K.Store keepalive.old keepalive.new }
 {
     while goes_on(wire, resend, keepalive, tick) {
         if !step_once(rig, wire, resend, keepalive, table, fates, notes)? {

@@ -1,4 +1,5 @@
 ghost use Rattle.std.specs.Prelude.{◌≡◌, length, None};
+ghost use Rattle.timer.specs.Frame.{Framed};
 ghost use Rattle.timer.specs.Rules.{take_rule};
 ghost use Rattle.protocol.specs.State.{State};
 ghost use Rattle.protocol.specs.Rules.{moved};
@@ -24,8 +25,7 @@ fn take_due<P, S: Store<P>>(store: &mut S) -> Option<Expired<P>>
     ensures answer { result ≡ (take_rule (S.meaning store.old)).answer }
     ensures after { S.meaning store.new ≡ (take_rule (S.meaning store.old)).after }
     ensures idle { result ≡ None → S.meaning store.new ≡ S.meaning store.old }
-    ensures lenders { S.lenders store.new ≡ S.lenders store.old }
-    ensures beyond { S.beyond store.new ≡ S.beyond store.old }
+    ensures framed { Framed S.Store store.old store.new }
 {
     store.take()
 }
@@ -42,9 +42,9 @@ fn proceed<W: Store<Packet>, R: Store<Attempt>, K: Store<u8>>(
     requires { length records.old ≡ 64 }
     ensures answer { let s : State = state_of rig.old fates.now (W.meaning wire.old) (R.meaning resend.old) (K.meaning keepalive.old) records.old in result ≡ (moved s).answer }
     ensures after { let s : State = state_of rig.old fates.now (W.meaning wire.old) (R.meaning resend.old) (K.meaning keepalive.old) records.old in state_of rig.new fates.now (W.meaning wire.new) (R.meaning resend.new) (K.meaning keepalive.new) records.new ≡ (moved s).after }
-    ensures wire { (W.lenders wire.new ≡ W.lenders wire.old) × (W.beyond wire.new ≡ W.beyond wire.old) }
-    ensures resend { (R.lenders resend.new ≡ R.lenders resend.old) × (R.beyond resend.new ≡ R.beyond resend.old) }
-    ensures keepalive { (K.lenders keepalive.new ≡ K.lenders keepalive.old) × (K.beyond keepalive.new ≡ K.beyond keepalive.old) }
+    ensures wire { Framed W.Store wire.old wire.new }
+    ensures resend { Framed R.Store resend.old resend.new }
+    ensures keepalive { Framed K.Store keepalive.old keepalive.new }
 {
     if let Some(entry) = take_due(wire) {
         return Ok(arrival(rig, wire, resend, keepalive, records, fates, entry));
@@ -70,9 +70,9 @@ pub fn step<W: Store<Packet>, R: Store<Attempt>, K: Store<u8>>(
     requires { length records.old ≡ 64 }
     ensures answer { let s : State = state_of rig.old fates.now (W.meaning wire.old) (R.meaning resend.old) (K.meaning keepalive.old) records.old in result ≡ (step_body s).answer }
     ensures after { let s : State = state_of rig.old fates.now (W.meaning wire.old) (R.meaning resend.old) (K.meaning keepalive.old) records.old in state_of rig.new fates.now (W.meaning wire.new) (R.meaning resend.new) (K.meaning keepalive.new) records.new ≡ (step_body s).after }
-    ensures wire { (W.lenders wire.new ≡ W.lenders wire.old) × (W.beyond wire.new ≡ W.beyond wire.old) }
-    ensures resend { (R.lenders resend.new ≡ R.lenders resend.old) × (R.beyond resend.new ≡ R.beyond resend.old) }
-    ensures keepalive { (K.lenders keepalive.new ≡ K.lenders keepalive.old) × (K.beyond keepalive.new ≡ K.beyond keepalive.old) }
+    ensures wire { Framed W.Store wire.old wire.new }
+    ensures resend { Framed R.Store resend.old resend.new }
+    ensures keepalive { Framed K.Store keepalive.old keepalive.new }
 {
     if rig.low(wire, resend, keepalive) {
         return Err(RigFault::Spent);

@@ -1,4 +1,5 @@
 ghost use Rattle.std.specs.Prelude.{◌≡◌, length, Ok, Err, MatchResult};
+ghost use Rattle.timer.specs.Frame.{Framed};
 ghost use Rattle.timer.specs.Rules.{advance_rule};
 ghost use Rattle.protocol.specs.State.{State};
 ghost use Rattle.protocol.specs.Rules.{tick_rule};
@@ -16,8 +17,7 @@ use trace::queue::{Queue, StoreFault};
 fn advance<P, S: Store<P>>(queue: Queue, store: &mut S) -> Result<(), StoreFault>
     ensures cases { MatchResult result (λ _. (advance_rule (S.meaning store.old)).answer ≡ Ok tt) (λ e. ((advance_rule (S.meaning store.old)).answer ≡ Err e.fault) × (e.queue ≡ queue) × (S.meaning store.new ≡ S.meaning store.old)) }
     ensures after { S.meaning store.new ≡ (advance_rule (S.meaning store.old)).after }
-    ensures lenders { S.lenders store.new ≡ S.lenders store.old }
-    ensures beyond { S.beyond store.new ≡ S.beyond store.old }
+    ensures framed { Framed S.Store store.old store.new }
 {
     queue.named(store.advance())
 }
@@ -34,9 +34,9 @@ pub(crate) fn tick<W: Store<Packet>, R: Store<Attempt>, K: Store<u8>>(
     requires { length records.now ≡ 64 }
     ensures answer { let s : State = state_of rig.now fates.now (W.meaning wire.old) (R.meaning resend.old) (K.meaning keepalive.old) records.now in result ≡ (tick_rule s).answer }
     ensures after { let s : State = state_of rig.now fates.now (W.meaning wire.old) (R.meaning resend.old) (K.meaning keepalive.old) records.now in state_of rig.now fates.now (W.meaning wire.new) (R.meaning resend.new) (K.meaning keepalive.new) records.now ≡ (tick_rule s).after }
-    ensures wire { (W.lenders wire.new ≡ W.lenders wire.old) × (W.beyond wire.new ≡ W.beyond wire.old) }
-    ensures resend { (R.lenders resend.new ≡ R.lenders resend.old) × (R.beyond resend.new ≡ R.beyond resend.old) }
-    ensures keepalive { (K.lenders keepalive.new ≡ K.lenders keepalive.old) × (K.beyond keepalive.new ≡ K.beyond keepalive.old) }
+    ensures wire { Framed W.Store wire.old wire.new }
+    ensures resend { Framed R.Store resend.old resend.new }
+    ensures keepalive { Framed K.Store keepalive.old keepalive.new }
 {
     advance(Queue::Wire, wire)?;
     advance(Queue::Resend, resend)?;

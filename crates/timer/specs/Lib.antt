@@ -1,4 +1,5 @@
 pub mod Faults
 pub mod Meaning
+pub mod Frame
 pub mod Rules
 pub mod History

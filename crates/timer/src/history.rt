@@ -1,4 +1,5 @@
 ghost use Rattle.std.specs.Prelude.{◌≡◌, List, ◌++◌};
+ghost use Rattle.timer.specs.Frame.{Framed};
 ghost use Rattle.timer.specs.Rules.{Event};
 ghost use Rattle.timer.specs.History.{call_answer, call_after, ends, events, Fresh, Lawful};
 
@@ -9,8 +10,7 @@ use crate::store::Store;
 pub fn perform<P: Copy, S: Store<P>>(store: &mut S, call: Call<P>) -> Answer<P>
     ensures answer { result ≡ call_answer (S.meaning store.old) call }
     ensures after { S.meaning store.new ≡ call_after (S.meaning store.old) call }
-    ensures lenders { S.lenders store.new ≡ S.lenders store.old }
-    ensures beyond { S.beyond store.new ≡ S.beyond store.old }
+    ensures framed { Framed S.Store store.old store.new }
 {
     match call {
         Call::Start(deadline, owner, payload) => Answer::Start(store.start(
@@ -29,8 +29,7 @@ pub fn play<P: Copy, S: Store<P>>(store: &mut S, calls: &[Call<P>])
     ensures after { S.meaning store.new ≡ ends (S.meaning store.old) calls.now }
     ensures begun { Fresh (S.meaning store.old) → Lawful (S.meaning store.new) (events (S.meaning store.old) calls.now) }
     ensures lawful { (es : List Event) → Lawful (S.meaning store.old) es → Lawful (S.meaning store.new) (es ++ events (S.meaning store.old) calls.now) }
-    ensures lenders { S.lenders store.new ≡ S.lenders store.old }
-    ensures beyond { S.beyond store.new ≡ S.beyond store.old }
+    ensures framed { Framed S.Store store.old store.new }
 {
     for call in calls {
         let _ = perform(store, *call);

@@ -1,4 +1,5 @@
 ghost use Rattle.std.specs.Prelude.{◌≡◌, take, drop};
+ghost use Rattle.timer.specs.Frame.{Framed};
 ghost use Rattle.protocol.specs.Rules.{open_rule, send_rule, receive_rule, close_rule, step_rule};
 ghost use Rattle.transport.specs.Parts.{state_of};
 
@@ -30,7 +31,7 @@ impl Running {
         ensures answer { result ≡ (open_rule (state_of self.now fates.now (W.meaning wire.now) (R.meaning resend.now) (K.meaning keepalive.old) (take 64 table.old)) channel).answer }
         ensures after { state_of self.now fates.now (W.meaning wire.now) (R.meaning resend.now) (K.meaning keepalive.new) (take 64 table.new) ≡ (open_rule (state_of self.now fates.now (W.meaning wire.now) (R.meaning resend.now) (K.meaning keepalive.old) (take 64 table.old)) channel).after }
         ensures later { drop 64 table.new ≡ drop 64 table.old }
-        ensures keepalive { (K.lenders keepalive.new ≡ K.lenders keepalive.old) × (K.beyond keepalive.new ≡ K.beyond keepalive.old) }
+        ensures keepalive { Framed K.Store keepalive.old keepalive.new }
     {
         if table.len() < CHANNELS {
             return Err(RigFault::Table);
@@ -60,8 +61,8 @@ impl Running {
         ensures answer { result ≡ (send_rule (state_of self.old fates.now (W.meaning wire.old) (R.meaning resend.old) (K.meaning keepalive.now) (take 64 table.old)) channel word).answer }
         ensures after { state_of self.new fates.now (W.meaning wire.new) (R.meaning resend.new) (K.meaning keepalive.now) (take 64 table.new) ≡ (send_rule (state_of self.old fates.now (W.meaning wire.old) (R.meaning resend.old) (K.meaning keepalive.now) (take 64 table.old)) channel word).after }
         ensures later { drop 64 table.new ≡ drop 64 table.old }
-        ensures wire { (W.lenders wire.new ≡ W.lenders wire.old) × (W.beyond wire.new ≡ W.beyond wire.old) }
-        ensures resend { (R.lenders resend.new ≡ R.lenders resend.old) × (R.beyond resend.new ≡ R.beyond resend.old) }
+        ensures wire { Framed W.Store wire.old wire.new }
+        ensures resend { Framed R.Store resend.old resend.new }
     {
         if table.len() < CHANNELS {
             return Err(RigFault::Table);
@@ -119,8 +120,8 @@ impl Running {
         ensures answer { result ≡ (close_rule (state_of self.now fates.now (W.meaning wire.now) (R.meaning resend.old) (K.meaning keepalive.old) (take 64 table.old)) channel).answer }
         ensures after { state_of self.now fates.now (W.meaning wire.now) (R.meaning resend.new) (K.meaning keepalive.new) (take 64 table.new) ≡ (close_rule (state_of self.now fates.now (W.meaning wire.now) (R.meaning resend.old) (K.meaning keepalive.old) (take 64 table.old)) channel).after }
         ensures later { drop 64 table.new ≡ drop 64 table.old }
-        ensures resend { (R.lenders resend.new ≡ R.lenders resend.old) × (R.beyond resend.new ≡ R.beyond resend.old) }
-        ensures keepalive { (K.lenders keepalive.new ≡ K.lenders keepalive.old) × (K.beyond keepalive.new ≡ K.beyond keepalive.old) }
+        ensures resend { Framed R.Store resend.old resend.new }
+        ensures keepalive { Framed K.Store keepalive.old keepalive.new }
     {
         if table.len() < CHANNELS {
             return Err(RigFault::Table);
@@ -148,9 +149,9 @@ impl Running {
         ensures answer { result ≡ (step_rule (state_of self.old fates.now (W.meaning wire.old) (R.meaning resend.old) (K.meaning keepalive.old) (take 64 table.old))).answer }
         ensures after { state_of self.new fates.now (W.meaning wire.new) (R.meaning resend.new) (K.meaning keepalive.new) (take 64 table.new) ≡ (step_rule (state_of self.old fates.now (W.meaning wire.old) (R.meaning resend.old) (K.meaning keepalive.old) (take 64 table.old))).after }
         ensures later { drop 64 table.new ≡ drop 64 table.old }
-        ensures wire { (W.lenders wire.new ≡ W.lenders wire.old) × (W.beyond wire.new ≡ W.beyond wire.old) }
-        ensures resend { (R.lenders resend.new ≡ R.lenders resend.old) × (R.beyond resend.new ≡ R.beyond resend.old) }
-        ensures keepalive { (K.lenders keepalive.new ≡ K.lenders keepalive.old) × (K.beyond keepalive.new ≡ K.beyond keepalive.old) }
+        ensures wire { Framed W.Store wire.old wire.new }
+        ensures resend { Framed R.Store resend.old resend.new }
+        ensures keepalive { Framed K.Store keepalive.old keepalive.new }
     {
         if table.len() < CHANNELS {
             return Err(RigFault::Table);

@@ -4,6 +4,7 @@ use Rattle.timer.specs.declared.call.Call.{Call}
 use Rattle.timer.specs.Meaning.{Meaning}
 use Rattle.timer.specs.Rules.{Event}
 use Rattle.timer.specs.History.{call_after, ends, events, Lawful}
+use Rattle.timer.proofs.Frames.{framed_on}
 use Rattle.timer.proofs.Laws.{fresh_lawful, history_lawful}
 use Rattle.timer.proofs.history.play.Goals as goal
 
@@ -18,8 +19,7 @@ loop-call-preserved g c =
     let p = c.perform.ensures in
     let inv = c.loop-call.invariant in (
       ends_more _ _ c.args.calls.now c.loop-call.call-index c.call-item.result c.loop-call-test.true c.call-item.is p.after ∙ inv.0,
-      p.lenders ∙ inv.1,
-      p.beyond ∙ inv.2,
+      framed_on g.S.Store _ _ _ inv.1 p.framed,
     )
 
 pub returns : goal.returns
@@ -30,4 +30,4 @@ returns g c =
     let inv = c.loop-call.invariant in
     let after : n ≡ ends m cs = sym (at_drop_all (ends n) cs c.loop-call.call-index c.loop-call-test.false) ∙ inv.0 in
     let lawful : (es : List Event) → Lawful m es → Lawful n (es ++ events m cs) = λ es l. subst (λ k. Lawful k (es ++ events m cs)) (sym after) (history_lawful m es cs l) in
-    record { after = after; begun = λ f. lawful [] (fresh_lawful m f); lawful = lawful; lenders = inv.1; beyond = inv.2 }
+    record { after = after; begun = λ f. lawful [] (fresh_lawful m f); lawful = lawful; framed = inv.1 }

@@ -1,4 +1,5 @@
 use Rattle.std.proofs.Common.{◌≡◌, drop}
+use Rattle.timer.specs.Frame.{Framed}
 use Rattle.timer.specs.History.{ends}
 use Rattle.timer.proofs.history.play.Given as goal
 
@@ -6,5 +7,4 @@ use Rattle.timer.proofs.history.play.Given as goal
 abbrev pub invariant-loop-call : goal.invariant-loop-call
 invariant-loop-call g l =
     (ends (g.S.Store.meaning l.store) (drop l.call-index l.calls) ≡ ends (g.S.Store.meaning l.initial.store) l.calls)
-    × (g.S.Store.lenders l.store ≡ g.S.Store.lenders l.initial.store)
-    × (g.S.Store.beyond l.store ≡ g.S.Store.beyond l.initial.store)
+    × Framed g.S.Store l.initial.store l.store
