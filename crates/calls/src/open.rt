@@ -1,4 +1,5 @@
 ghost use Rattle.std.specs.Prelude.{◌≡◌, length};
+ghost use Rattle.protocol.specs.Obeys.{Obeys};
 ghost use Rattle.timer.specs.Frame.{Framed};
 ghost use Rattle.protocol.specs.State.{State};
 ghost use Rattle.engine.specs.Parts.{state_of};
@@ -23,8 +24,7 @@ pub fn open<W: Store<Packet>, R: Store<Attempt>, K: Store<u8>>(
     channel: u32,
 ) -> Result<Action, RigFault>
     requires { length records.old ≡ 64 }
-    ensures answer { let s : State = state_of rig.now fates.now (W.meaning wire.now) (R.meaning resend.now) (K.meaning keepalive.old) records.old in result ≡ (open_body s channel).answer }
-    ensures after { let s : State = state_of rig.now fates.now (W.meaning wire.now) (R.meaning resend.now) (K.meaning keepalive.old) records.old in state_of rig.now fates.now (W.meaning wire.now) (R.meaning resend.now) (K.meaning keepalive.new) records.new ≡ (open_body s channel).after }
+    ensures obeys { Obeys (λ s. open_body s channel) (state_of rig.now fates.now (W.meaning wire.now) (R.meaning resend.now) (K.meaning keepalive.old) records.old) result (state_of rig.now fates.now (W.meaning wire.now) (R.meaning resend.now) (K.meaning keepalive.new) records.new) }
     ensures keepalive { Framed K.Store keepalive.old keepalive.new }
 {
     if channel > 63 {

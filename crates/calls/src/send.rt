@@ -1,4 +1,5 @@
 ghost use Rattle.std.specs.Prelude.{◌≡◌, ◌<◌, length};
+ghost use Rattle.protocol.specs.Obeys.{Obeys};
 ghost use Rattle.timer.specs.Frame.{Framed};
 ghost use Rattle.protocol.specs.State.{State, record_of};
 ghost use Rattle.protocol.specs.Rules.{send_start};
@@ -26,8 +27,7 @@ pub fn send<W: Store<Packet>, R: Store<Attempt>, K: Store<u8>>(
     word: u32,
 ) -> Result<Action, RigFault>
     requires { length records.old ≡ 64 }
-    ensures answer { let s : State = state_of rig.old fates.now (W.meaning wire.old) (R.meaning resend.old) (K.meaning keepalive.now) records.old in result ≡ (send_body s channel word).answer }
-    ensures after { let s : State = state_of rig.old fates.now (W.meaning wire.old) (R.meaning resend.old) (K.meaning keepalive.now) records.old in state_of rig.new fates.now (W.meaning wire.new) (R.meaning resend.new) (K.meaning keepalive.now) records.new ≡ (send_body s channel word).after }
+    ensures obeys { Obeys (λ s. send_body s channel word) (state_of rig.old fates.now (W.meaning wire.old) (R.meaning resend.old) (K.meaning keepalive.now) records.old) result (state_of rig.new fates.now (W.meaning wire.new) (R.meaning resend.new) (K.meaning keepalive.now) records.new) }
     ensures wire { Framed W.Store wire.old wire.new }
     ensures resend { Framed R.Store resend.old resend.new }
 {
@@ -71,8 +71,7 @@ fn launch<W: Store<Packet>, R: Store<Attempt>, K: Store<u8>>(
     word: u32,
 ) -> Result<Action, RigFault>
     requires { let s : State = state_of rig.old fates.now (W.meaning wire.old) (R.meaning resend.old) (K.meaning keepalive.now) records.old in (length records.old ≡ 64) × (owner < 64) × («record» ≡ record_of s owner) }
-    ensures answer { let s : State = state_of rig.old fates.now (W.meaning wire.old) (R.meaning resend.old) (K.meaning keepalive.now) records.old in result ≡ (send_start s owner word).answer }
-    ensures after { let s : State = state_of rig.old fates.now (W.meaning wire.old) (R.meaning resend.old) (K.meaning keepalive.now) records.old in state_of rig.new fates.now (W.meaning wire.new) (R.meaning resend.new) (K.meaning keepalive.now) records.new ≡ (send_start s owner word).after }
+    ensures obeys { Obeys (λ s. send_start s owner word) (state_of rig.old fates.now (W.meaning wire.old) (R.meaning resend.old) (K.meaning keepalive.now) records.old) result (state_of rig.new fates.now (W.meaning wire.new) (R.meaning resend.new) (K.meaning keepalive.now) records.new) }
     ensures wire { Framed W.Store wire.old wire.new }
     ensures resend { Framed R.Store resend.old resend.new }
 {

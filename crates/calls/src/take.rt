@@ -1,4 +1,5 @@
 ghost use Rattle.std.specs.Prelude.{◌≡◌, length};
+ghost use Rattle.protocol.specs.Obeys.{Obeys};
 ghost use Rattle.protocol.specs.State.{State};
 ghost use Rattle.engine.specs.Parts.{state_of};
 ghost use Rattle.calls.specs.Bodies.{take_body};
@@ -21,8 +22,7 @@ pub fn take<W: Store<Packet>, R: Store<Attempt>, K: Store<u8>>(
     channel: u32,
 ) -> Result<Action, RigFault>
     requires { length records.old ≡ 64 }
-    ensures answer { let s : State = state_of rig.now fates.now (W.meaning wire.now) (R.meaning resend.now) (K.meaning keepalive.now) records.old in result ≡ (take_body s channel).answer }
-    ensures after { let s : State = state_of rig.now fates.now (W.meaning wire.now) (R.meaning resend.now) (K.meaning keepalive.now) records.old in state_of rig.now fates.now (W.meaning wire.now) (R.meaning resend.now) (K.meaning keepalive.now) records.new ≡ (take_body s channel).after }
+    ensures obeys { Obeys (λ s. take_body s channel) (state_of rig.now fates.now (W.meaning wire.now) (R.meaning resend.now) (K.meaning keepalive.now) records.old) result (state_of rig.now fates.now (W.meaning wire.now) (R.meaning resend.now) (K.meaning keepalive.now) records.new) }
 {
     if channel > 63 {
         return Err(RigFault::Channel);

@@ -1,4 +1,5 @@
 ghost use Rattle.std.specs.Prelude.{◌≡◌, length, Ok};
+ghost use Rattle.protocol.specs.Obeys.{Obeys};
 ghost use Rattle.timer.specs.Frame.{Framed};
 ghost use Rattle.protocol.specs.State.{State};
 ghost use Rattle.protocol.specs.Rules.{arrival, told_arrival};
@@ -45,8 +46,7 @@ pub fn arrival<W: Store<Packet>, R: Store<Attempt>, K: Store<u8>>(
     entry: Expired<Packet>,
 ) -> Action
     requires { length records.old ≡ 64 }
-    ensures answer { let s : State = state_of rig.old fates.now (W.meaning wire.old) (R.meaning resend.old) (K.meaning keepalive.now) records.old in Ok result ≡ (arrival s entry).answer }
-    ensures after { let s : State = state_of rig.old fates.now (W.meaning wire.old) (R.meaning resend.old) (K.meaning keepalive.now) records.old in state_of rig.new fates.now (W.meaning wire.new) (R.meaning resend.new) (K.meaning keepalive.now) records.new ≡ (arrival s entry).after }
+    ensures obeys { Obeys (λ s. arrival s entry) (state_of rig.old fates.now (W.meaning wire.old) (R.meaning resend.old) (K.meaning keepalive.now) records.old) (Ok result) (state_of rig.new fates.now (W.meaning wire.new) (R.meaning resend.new) (K.meaning keepalive.now) records.new) }
     ensures wire { Framed W.Store wire.old wire.new }
     ensures resend { Framed R.Store resend.old resend.new }
 {

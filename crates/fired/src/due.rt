@@ -1,4 +1,5 @@
 ghost use Rattle.std.specs.Prelude.{◌≡◌, ◌<◌, length};
+ghost use Rattle.protocol.specs.Obeys.{Obeys};
 ghost use Rattle.timer.specs.Frame.{Framed};
 ghost use Rattle.protocol.specs.State.{State};
 ghost use Rattle.protocol.specs.Rules.{resend_rule, resend as resend_entry, beat_rule, beat as beat_entry};
@@ -27,8 +28,7 @@ fn resend_open<W: Store<Packet>, R: Store<Attempt>, K: Store<u8>>(
     attempt: Attempt,
 ) -> Result<Action, RigFault>
     requires { (length records.old ≡ 64) × (owner < 64) }
-    ensures answer { let s : State = state_of rig.old fates.now (W.meaning wire.old) (R.meaning resend.old) (K.meaning keepalive.now) records.old in result ≡ (resend_rule s owner attempt).answer }
-    ensures after { let s : State = state_of rig.old fates.now (W.meaning wire.old) (R.meaning resend.old) (K.meaning keepalive.now) records.old in state_of rig.new fates.now (W.meaning wire.new) (R.meaning resend.new) (K.meaning keepalive.now) records.new ≡ (resend_rule s owner attempt).after }
+    ensures obeys { Obeys (λ s. resend_rule s owner attempt) (state_of rig.old fates.now (W.meaning wire.old) (R.meaning resend.old) (K.meaning keepalive.now) records.old) result (state_of rig.new fates.now (W.meaning wire.new) (R.meaning resend.new) (K.meaning keepalive.now) records.new) }
     ensures wire { Framed W.Store wire.old wire.new }
     ensures resend { Framed R.Store resend.old resend.new }
 {
@@ -59,8 +59,7 @@ pub fn resend_due<W: Store<Packet>, R: Store<Attempt>, K: Store<u8>>(
     entry: Expired<Attempt>,
 ) -> Result<Action, RigFault>
     requires { length records.old ≡ 64 }
-    ensures answer { let s : State = state_of rig.old fates.now (W.meaning wire.old) (R.meaning resend.old) (K.meaning keepalive.now) records.old in result ≡ (resend_entry s entry).answer }
-    ensures after { let s : State = state_of rig.old fates.now (W.meaning wire.old) (R.meaning resend.old) (K.meaning keepalive.now) records.old in state_of rig.new fates.now (W.meaning wire.new) (R.meaning resend.new) (K.meaning keepalive.now) records.new ≡ (resend_entry s entry).after }
+    ensures obeys { Obeys (λ s. resend_entry s entry) (state_of rig.old fates.now (W.meaning wire.old) (R.meaning resend.old) (K.meaning keepalive.now) records.old) result (state_of rig.new fates.now (W.meaning wire.new) (R.meaning resend.new) (K.meaning keepalive.now) records.new) }
     ensures wire { Framed W.Store wire.old wire.new }
     ensures resend { Framed R.Store resend.old resend.new }
 {
@@ -94,8 +93,7 @@ fn beat_open<W: Store<Packet>, R: Store<Attempt>, K: Store<u8>>(
     owner: u8,
 ) -> Result<Action, RigFault>
     requires { (length records.old ≡ 64) × (owner < 64) }
-    ensures answer { let s : State = state_of rig.old fates.now (W.meaning wire.old) (R.meaning resend.now) (K.meaning keepalive.old) records.old in result ≡ (beat_rule s owner).answer }
-    ensures after { let s : State = state_of rig.old fates.now (W.meaning wire.old) (R.meaning resend.now) (K.meaning keepalive.old) records.old in state_of rig.new fates.now (W.meaning wire.new) (R.meaning resend.now) (K.meaning keepalive.new) records.new ≡ (beat_rule s owner).after }
+    ensures obeys { Obeys (λ s. beat_rule s owner) (state_of rig.old fates.now (W.meaning wire.old) (R.meaning resend.now) (K.meaning keepalive.old) records.old) result (state_of rig.new fates.now (W.meaning wire.new) (R.meaning resend.now) (K.meaning keepalive.new) records.new) }
     ensures wire { Framed W.Store wire.old wire.new }
     ensures keepalive { Framed K.Store keepalive.old keepalive.new }
 {
@@ -126,8 +124,7 @@ pub fn beat_due<W: Store<Packet>, R: Store<Attempt>, K: Store<u8>>(
     entry: Expired<u8>,
 ) -> Result<Action, RigFault>
     requires { length records.old ≡ 64 }
-    ensures answer { let s : State = state_of rig.old fates.now (W.meaning wire.old) (R.meaning resend.now) (K.meaning keepalive.old) records.old in result ≡ (beat_entry s entry).answer }
-    ensures after { let s : State = state_of rig.old fates.now (W.meaning wire.old) (R.meaning resend.now) (K.meaning keepalive.old) records.old in state_of rig.new fates.now (W.meaning wire.new) (R.meaning resend.now) (K.meaning keepalive.new) records.new ≡ (beat_entry s entry).after }
+    ensures obeys { Obeys (λ s. beat_entry s entry) (state_of rig.old fates.now (W.meaning wire.old) (R.meaning resend.now) (K.meaning keepalive.old) records.old) result (state_of rig.new fates.now (W.meaning wire.new) (R.meaning resend.now) (K.meaning keepalive.new) records.new) }
     ensures wire { Framed W.Store wire.old wire.new }
     ensures keepalive { Framed K.Store keepalive.old keepalive.new }
 {

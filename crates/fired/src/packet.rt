@@ -1,4 +1,5 @@
 ghost use Rattle.std.specs.Prelude.{◌≡◌, ◌<◌, length, Ok};
+ghost use Rattle.protocol.specs.Obeys.{Obeys};
 ghost use Rattle.timer.specs.Frame.{Framed};
 ghost use Rattle.timer.specs.Rules.{stop_rule};
 ghost use Rattle.protocol.specs.State.{State};
@@ -36,8 +37,7 @@ pub(crate) fn data<W: Store<Packet>, R: Store<Attempt>, K: Store<u8>>(
     segment: Segment,
 ) -> Action
     requires { (length records.old ≡ 64) × (owner < 64) }
-    ensures answer { let s : State = state_of rig.old fates.now (W.meaning wire.old) (R.meaning resend.now) (K.meaning keepalive.now) records.old in Ok result ≡ (data_rule s owner segment).answer }
-    ensures after { let s : State = state_of rig.old fates.now (W.meaning wire.old) (R.meaning resend.now) (K.meaning keepalive.now) records.old in state_of rig.new fates.now (W.meaning wire.new) (R.meaning resend.now) (K.meaning keepalive.now) records.new ≡ (data_rule s owner segment).after }
+    ensures obeys { Obeys (λ s. data_rule s owner segment) (state_of rig.old fates.now (W.meaning wire.old) (R.meaning resend.now) (K.meaning keepalive.now) records.old) (Ok result) (state_of rig.new fates.now (W.meaning wire.new) (R.meaning resend.now) (K.meaning keepalive.now) records.new) }
     ensures wire { Framed W.Store wire.old wire.new }
 {
     let index = owner as usize;
@@ -73,8 +73,7 @@ pub(crate) fn acknowledgement<W: Store<Packet>, R: Store<Attempt>, K: Store<u8>>
     sequence: u32,
 ) -> Action
     requires { (length records.old ≡ 64) × (owner < 64) }
-    ensures answer { let s : State = state_of rig.now fates.now (W.meaning wire.now) (R.meaning resend.old) (K.meaning keepalive.now) records.old in Ok result ≡ (acknowledgement_rule s owner sequence).answer }
-    ensures after { let s : State = state_of rig.now fates.now (W.meaning wire.now) (R.meaning resend.old) (K.meaning keepalive.now) records.old in state_of rig.now fates.now (W.meaning wire.now) (R.meaning resend.new) (K.meaning keepalive.now) records.new ≡ (acknowledgement_rule s owner sequence).after }
+    ensures obeys { Obeys (λ s. acknowledgement_rule s owner sequence) (state_of rig.now fates.now (W.meaning wire.now) (R.meaning resend.old) (K.meaning keepalive.now) records.old) (Ok result) (state_of rig.now fates.now (W.meaning wire.now) (R.meaning resend.new) (K.meaning keepalive.now) records.new) }
     ensures resend { Framed R.Store resend.old resend.new }
 {
     let index = owner as usize;

@@ -4,3 +4,4 @@ pub mod Rules
 pub mod Questions
 pub mod Begin
 pub mod Examples
+pub mod Obeys

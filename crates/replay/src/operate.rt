@@ -1,4 +1,5 @@
 ghost use Rattle.std.specs.Prelude.{◌≡◌, take, drop};
+ghost use Rattle.protocol.specs.Obeys.{Obeys};
 ghost use Rattle.timer.specs.Frame.{Framed};
 ghost use Rattle.protocol.specs.Rules.{rule};
 ghost use Rattle.transport.specs.Parts.{state_of};
@@ -25,8 +26,7 @@ fn operate<W: Store<Packet>, R: Store<Attempt>, K: Store<u8>>(
     fates: &[u16],
     operation: Operation,
 ) -> Result<Action, RigFault>
-    ensures answer { result ≡ (rule (state_of rig.old fates.now (W.meaning wire.old) (R.meaning resend.old) (K.meaning keepalive.old) (take 64 table.old)) operation).answer }
-    ensures after { state_of rig.new fates.now (W.meaning wire.new) (R.meaning resend.new) (K.meaning keepalive.new) (take 64 table.new) ≡ (rule (state_of rig.old fates.now (W.meaning wire.old) (R.meaning resend.old) (K.meaning keepalive.old) (take 64 table.old)) operation).after }
+    ensures obeys { Obeys (λ s. rule s operation) (state_of rig.old fates.now (W.meaning wire.old) (R.meaning resend.old) (K.meaning keepalive.old) (take 64 table.old)) result (state_of rig.new fates.now (W.meaning wire.new) (R.meaning resend.new) (K.meaning keepalive.new) (take 64 table.new)) }
     ensures later { drop 64 table.new ≡ drop 64 table.old }
     ensures wire { Framed W.Store wire.old wire.new }
     ensures resend { Framed R.Store resend.old resend.new }

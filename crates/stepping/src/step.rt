@@ -1,4 +1,5 @@
 ghost use Rattle.std.specs.Prelude.{◌≡◌, length, None};
+ghost use Rattle.protocol.specs.Obeys.{Obeys};
 ghost use Rattle.timer.specs.Frame.{Framed};
 ghost use Rattle.timer.specs.Rules.{take_rule};
 ghost use Rattle.protocol.specs.State.{State};
@@ -40,8 +41,7 @@ fn proceed<W: Store<Packet>, R: Store<Attempt>, K: Store<u8>>(
     fates: &[u16],
 ) -> Result<Action, RigFault>
     requires { length records.old ≡ 64 }
-    ensures answer { let s : State = state_of rig.old fates.now (W.meaning wire.old) (R.meaning resend.old) (K.meaning keepalive.old) records.old in result ≡ (moved s).answer }
-    ensures after { let s : State = state_of rig.old fates.now (W.meaning wire.old) (R.meaning resend.old) (K.meaning keepalive.old) records.old in state_of rig.new fates.now (W.meaning wire.new) (R.meaning resend.new) (K.meaning keepalive.new) records.new ≡ (moved s).after }
+    ensures obeys { Obeys moved (state_of rig.old fates.now (W.meaning wire.old) (R.meaning resend.old) (K.meaning keepalive.old) records.old) result (state_of rig.new fates.now (W.meaning wire.new) (R.meaning resend.new) (K.meaning keepalive.new) records.new) }
     ensures wire { Framed W.Store wire.old wire.new }
     ensures resend { Framed R.Store resend.old resend.new }
     ensures keepalive { Framed K.Store keepalive.old keepalive.new }
@@ -68,8 +68,7 @@ pub fn step<W: Store<Packet>, R: Store<Attempt>, K: Store<u8>>(
     fates: &[u16],
 ) -> Result<Action, RigFault>
     requires { length records.old ≡ 64 }
-    ensures answer { let s : State = state_of rig.old fates.now (W.meaning wire.old) (R.meaning resend.old) (K.meaning keepalive.old) records.old in result ≡ (step_body s).answer }
-    ensures after { let s : State = state_of rig.old fates.now (W.meaning wire.old) (R.meaning resend.old) (K.meaning keepalive.old) records.old in state_of rig.new fates.now (W.meaning wire.new) (R.meaning resend.new) (K.meaning keepalive.new) records.new ≡ (step_body s).after }
+    ensures obeys { Obeys step_body (state_of rig.old fates.now (W.meaning wire.old) (R.meaning resend.old) (K.meaning keepalive.old) records.old) result (state_of rig.new fates.now (W.meaning wire.new) (R.meaning resend.new) (K.meaning keepalive.new) records.new) }
     ensures wire { Framed W.Store wire.old wire.new }
     ensures resend { Framed R.Store resend.old resend.new }
     ensures keepalive { Framed K.Store keepalive.old keepalive.new }

@@ -1,4 +1,5 @@
 ghost use Rattle.std.specs.Prelude.{◌≡◌, length, Ok, Err, MatchResult};
+ghost use Rattle.protocol.specs.Obeys.{Obeys};
 ghost use Rattle.timer.specs.Frame.{Framed};
 ghost use Rattle.timer.specs.Rules.{advance_rule};
 ghost use Rattle.protocol.specs.State.{State};
@@ -32,8 +33,7 @@ pub(crate) fn tick<W: Store<Packet>, R: Store<Attempt>, K: Store<u8>>(
     fates: &[u16],
 ) -> Result<Action, RigFault>
     requires { length records.now ≡ 64 }
-    ensures answer { let s : State = state_of rig.now fates.now (W.meaning wire.old) (R.meaning resend.old) (K.meaning keepalive.old) records.now in result ≡ (tick_rule s).answer }
-    ensures after { let s : State = state_of rig.now fates.now (W.meaning wire.old) (R.meaning resend.old) (K.meaning keepalive.old) records.now in state_of rig.now fates.now (W.meaning wire.new) (R.meaning resend.new) (K.meaning keepalive.new) records.now ≡ (tick_rule s).after }
+    ensures obeys { Obeys tick_rule (state_of rig.now fates.now (W.meaning wire.old) (R.meaning resend.old) (K.meaning keepalive.old) records.now) result (state_of rig.now fates.now (W.meaning wire.new) (R.meaning resend.new) (K.meaning keepalive.new) records.now) }
     ensures wire { Framed W.Store wire.old wire.new }
     ensures resend { Framed R.Store resend.old resend.new }
     ensures keepalive { Framed K.Store keepalive.old keepalive.new }

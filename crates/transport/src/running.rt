@@ -1,4 +1,5 @@
 ghost use Rattle.std.specs.Prelude.{◌≡◌, take, drop};
+ghost use Rattle.protocol.specs.Obeys.{Obeys};
 ghost use Rattle.timer.specs.Frame.{Framed};
 ghost use Rattle.protocol.specs.Rules.{open_rule, send_rule, receive_rule, close_rule, step_rule};
 ghost use Rattle.transport.specs.Parts.{state_of};
@@ -28,8 +29,7 @@ impl Running {
         fates: &[u16],
         channel: u32,
     ) -> Result<Action, RigFault>
-        ensures answer { result ≡ (open_rule (state_of self.now fates.now (W.meaning wire.now) (R.meaning resend.now) (K.meaning keepalive.old) (take 64 table.old)) channel).answer }
-        ensures after { state_of self.now fates.now (W.meaning wire.now) (R.meaning resend.now) (K.meaning keepalive.new) (take 64 table.new) ≡ (open_rule (state_of self.now fates.now (W.meaning wire.now) (R.meaning resend.now) (K.meaning keepalive.old) (take 64 table.old)) channel).after }
+        ensures obeys { Obeys (λ s. open_rule s channel) (state_of self.now fates.now (W.meaning wire.now) (R.meaning resend.now) (K.meaning keepalive.old) (take 64 table.old)) result (state_of self.now fates.now (W.meaning wire.now) (R.meaning resend.now) (K.meaning keepalive.new) (take 64 table.new)) }
         ensures later { drop 64 table.new ≡ drop 64 table.old }
         ensures keepalive { Framed K.Store keepalive.old keepalive.new }
     {
@@ -58,8 +58,7 @@ impl Running {
         channel: u32,
         word: u32,
     ) -> Result<Action, RigFault>
-        ensures answer { result ≡ (send_rule (state_of self.old fates.now (W.meaning wire.old) (R.meaning resend.old) (K.meaning keepalive.now) (take 64 table.old)) channel word).answer }
-        ensures after { state_of self.new fates.now (W.meaning wire.new) (R.meaning resend.new) (K.meaning keepalive.now) (take 64 table.new) ≡ (send_rule (state_of self.old fates.now (W.meaning wire.old) (R.meaning resend.old) (K.meaning keepalive.now) (take 64 table.old)) channel word).after }
+        ensures obeys { Obeys (λ s. send_rule s channel word) (state_of self.old fates.now (W.meaning wire.old) (R.meaning resend.old) (K.meaning keepalive.now) (take 64 table.old)) result (state_of self.new fates.now (W.meaning wire.new) (R.meaning resend.new) (K.meaning keepalive.now) (take 64 table.new)) }
         ensures later { drop 64 table.new ≡ drop 64 table.old }
         ensures wire { Framed W.Store wire.old wire.new }
         ensures resend { Framed R.Store resend.old resend.new }
@@ -89,8 +88,7 @@ impl Running {
         fates: &[u16],
         channel: u32,
     ) -> Result<Action, RigFault>
-        ensures answer { result ≡ (receive_rule (state_of self.now fates.now (W.meaning wire.now) (R.meaning resend.now) (K.meaning keepalive.now) (take 64 table.old)) channel).answer }
-        ensures after { state_of self.now fates.now (W.meaning wire.now) (R.meaning resend.now) (K.meaning keepalive.now) (take 64 table.new) ≡ (receive_rule (state_of self.now fates.now (W.meaning wire.now) (R.meaning resend.now) (K.meaning keepalive.now) (take 64 table.old)) channel).after }
+        ensures obeys { Obeys (λ s. receive_rule s channel) (state_of self.now fates.now (W.meaning wire.now) (R.meaning resend.now) (K.meaning keepalive.now) (take 64 table.old)) result (state_of self.now fates.now (W.meaning wire.now) (R.meaning resend.now) (K.meaning keepalive.now) (take 64 table.new)) }
         ensures later { drop 64 table.new ≡ drop 64 table.old }
     {
         if table.len() < CHANNELS {
@@ -117,8 +115,7 @@ impl Running {
         fates: &[u16],
         channel: u32,
     ) -> Result<Action, RigFault>
-        ensures answer { result ≡ (close_rule (state_of self.now fates.now (W.meaning wire.now) (R.meaning resend.old) (K.meaning keepalive.old) (take 64 table.old)) channel).answer }
-        ensures after { state_of self.now fates.now (W.meaning wire.now) (R.meaning resend.new) (K.meaning keepalive.new) (take 64 table.new) ≡ (close_rule (state_of self.now fates.now (W.meaning wire.now) (R.meaning resend.old) (K.meaning keepalive.old) (take 64 table.old)) channel).after }
+        ensures obeys { Obeys (λ s. close_rule s channel) (state_of self.now fates.now (W.meaning wire.now) (R.meaning resend.old) (K.meaning keepalive.old) (take 64 table.old)) result (state_of self.now fates.now (W.meaning wire.now) (R.meaning resend.new) (K.meaning keepalive.new) (take 64 table.new)) }
         ensures later { drop 64 table.new ≡ drop 64 table.old }
         ensures resend { Framed R.Store resend.old resend.new }
         ensures keepalive { Framed K.Store keepalive.old keepalive.new }
@@ -146,8 +143,7 @@ impl Running {
         table: &mut [Channel],
         fates: &[u16],
     ) -> Result<Action, RigFault>
-        ensures answer { result ≡ (step_rule (state_of self.old fates.now (W.meaning wire.old) (R.meaning resend.old) (K.meaning keepalive.old) (take 64 table.old))).answer }
-        ensures after { state_of self.new fates.now (W.meaning wire.new) (R.meaning resend.new) (K.meaning keepalive.new) (take 64 table.new) ≡ (step_rule (state_of self.old fates.now (W.meaning wire.old) (R.meaning resend.old) (K.meaning keepalive.old) (take 64 table.old))).after }
+        ensures obeys { Obeys step_rule (state_of self.old fates.now (W.meaning wire.old) (R.meaning resend.old) (K.meaning keepalive.old) (take 64 table.old)) result (state_of self.new fates.now (W.meaning wire.new) (R.meaning resend.new) (K.meaning keepalive.new) (take 64 table.new)) }
         ensures later { drop 64 table.new ≡ drop 64 table.old }
         ensures wire { Framed W.Store wire.old wire.new }
         ensures resend { Framed R.Store resend.old resend.new }

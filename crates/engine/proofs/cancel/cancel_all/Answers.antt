@@ -1,6 +1,7 @@
 use Rattle.std.proofs.Common.{◌≡◌, ℕ, ◌+◌, ◌<◌, ◌≤◌, List, length, get_or, drop, sym, ◌∙◌, rules}
 use Rattle.std.proofs.lemmas.List.{at_drop_more, at_drop_all}
 use Rattle.timer.specs.Meaning.{Meaning}
+use Rattle.timer.proofs.Frames.{framed_on}
 use Rattle.channel.specs.declared.record.Attempt.{Attempt}
 use Rattle.channel.specs.declared.record.SendPlace.{SendPlace}
 use Rattle.channel.specs.declared.record.SendPlace.TheVariants.{Answered}
@@ -20,8 +21,7 @@ loop-place-preserved g c =
     let e = c.cancel_place.ensures in
     let h : c.loop-place.place-index < length c.args.places = search rules in (
       cancel_more (g.R.Store.meaning c.loop-place.resend) (g.R.Store.meaning c.cancel_place.new.resend) c.args.places c.loop-place.place-index h e.after ∙ inv.0,
-      e.lenders ∙ inv.1,
-      e.beyond ∙ inv.2,
+      framed_on g.R.Store _ _ _ inv.1 e.framed,
     )
 
 pub returns : goal.returns
@@ -30,6 +30,5 @@ returns g c =
     let h : length c.args.places ≤ c.loop-place.place-index = search rules in
     record {
       after = sym (at_drop_all (λ qs. (all_cancelled qs (g.R.Store.meaning c.loop-place.resend)).after) c.args.places c.loop-place.place-index h) ∙ inv.0;
-      lenders = inv.1;
-      beyond = inv.2;
+      framed = inv.1;
     }

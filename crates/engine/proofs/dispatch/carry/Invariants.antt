@@ -1,4 +1,5 @@
 use Rattle.std.proofs.Common.{◌≡◌, ◌+◌, ◌≤◌}
+use Rattle.timer.specs.Frame.{Framed}
 use Rattle.link.specs.Fate.{fate_delay}
 use Rattle.channel.specs.Record.{stop}
 use Rattle.protocol.specs.Link.{Carried, carried}
@@ -12,5 +13,4 @@ invariant-loop-copy g l =
     (g.W.Store.meaning l.wire ≡ k.after)
     × (l.accepted ≡ k.copies)
     × (l.accepted ≤ l._copy)
-    × (g.W.Store.lenders l.wire ≡ g.W.Store.lenders l.initial.wire)
-    × (g.W.Store.beyond l.wire ≡ g.W.Store.beyond l.initial.wire)
+    × Framed g.W.Store l.initial.wire l.wire
