@@ -1,7 +1,7 @@
-ghost use Rattle.std.specs.Prelude.{◌≡◌, [], ◌∷◌, ◌++◌, take, drop, MatchResult};
+ghost use Rattle.std.specs.Prelude.{◌≡◌, take, drop};
 ghost use Rattle.timer.specs.Frame.{Framed};
 ghost use Rattle.transport.specs.Parts.{state_of};
-ghost use Rattle.session.specs.Run.{call_answer, call_after, note_of};
+ghost use Rattle.replay.specs.Noting.{Noted};
 
 use crate::operate::perform;
 use channel::record::{Attempt, Channel};
@@ -23,7 +23,7 @@ pub(crate) fn note<W: Store<Packet>, R: Store<Attempt>, K: Store<u8>>(
     notes: &mut Vec<Note>,
     call: Call,
 ) -> Result<Answer, AllocError>
-    ensures cases { MatchResult result (λ a. (a ≡ call_answer (state_of rig.old fates.now (W.meaning wire.old) (R.meaning resend.old) (K.meaning keepalive.old) (take 64 table.old)) call) × (state_of rig.new fates.now (W.meaning wire.new) (R.meaning resend.new) (K.meaning keepalive.new) (take 64 table.new) ≡ call_after (state_of rig.old fates.now (W.meaning wire.old) (R.meaning resend.old) (K.meaning keepalive.old) (take 64 table.old)) call) × (notes.new.items ≡ notes.old.items ++ note_of (state_of rig.old fates.now (W.meaning wire.old) (R.meaning resend.old) (K.meaning keepalive.old) (take 64 table.old)) call ∷ [])) (λ _. (state_of rig.new fates.now (W.meaning wire.new) (R.meaning resend.new) (K.meaning keepalive.new) (take 64 table.new) ≡ state_of rig.old fates.now (W.meaning wire.old) (R.meaning resend.old) (K.meaning keepalive.old) (take 64 table.old)) × (notes.new.items ≡ notes.old.items)) }
+    ensures cases { Noted (state_of rig.old fates.now (W.meaning wire.old) (R.meaning resend.old) (K.meaning keepalive.old) (take 64 table.old)) notes.old.items call result (state_of rig.new fates.now (W.meaning wire.new) (R.meaning resend.new) (K.meaning keepalive.new) (take 64 table.new)) notes.new.items }
     ensures later { drop 64 table.new ≡ drop 64 table.old }
     ensures wire { Framed W.Store wire.old wire.new }
     ensures resend { Framed R.Store resend.old resend.new }

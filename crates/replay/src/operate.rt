@@ -3,7 +3,7 @@ ghost use Rattle.protocol.specs.Obeys.{Obeys};
 ghost use Rattle.timer.specs.Frame.{Framed};
 ghost use Rattle.protocol.specs.Rules.{rule};
 ghost use Rattle.transport.specs.Parts.{state_of};
-ghost use Rattle.session.specs.Run.{call_answer, call_after};
+ghost use Rattle.replay.specs.Noting.{Performed};
 
 use crate::ask::ask;
 use channel::record::{Attempt, Channel};
@@ -53,8 +53,7 @@ pub(crate) fn perform<W: Store<Packet>, R: Store<Attempt>, K: Store<u8>>(
     fates: &[u16],
     call: Call,
 ) -> Answer
-    ensures answer { result ≡ call_answer (state_of rig.old fates.now (W.meaning wire.old) (R.meaning resend.old) (K.meaning keepalive.old) (take 64 table.old)) call }
-    ensures after { state_of rig.new fates.now (W.meaning wire.new) (R.meaning resend.new) (K.meaning keepalive.new) (take 64 table.new) ≡ call_after (state_of rig.old fates.now (W.meaning wire.old) (R.meaning resend.old) (K.meaning keepalive.old) (take 64 table.old)) call }
+    ensures performed { Performed (state_of rig.old fates.now (W.meaning wire.old) (R.meaning resend.old) (K.meaning keepalive.old) (take 64 table.old)) call result (state_of rig.new fates.now (W.meaning wire.new) (R.meaning resend.new) (K.meaning keepalive.new) (take 64 table.new)) }
     ensures later { drop 64 table.new ≡ drop 64 table.old }
     ensures wire { Framed W.Store wire.old wire.new }
     ensures resend { Framed R.Store resend.old resend.new }

@@ -1,4 +1,5 @@
 use Rattle.std.proofs.Common.{Bool, true, take, vec_items, sym, refl, ◌∙◌, subst, rules}
+use Rattle.timer.proofs.Frames.{framed_still, framed_on}
 use Rattle.protocol.specs.State.{State}
 use Rattle.timers_law.specs.Ready.{Ready}
 use Rattle.transport.specs.Parts.{state_of}
@@ -12,7 +13,7 @@ pub loop-command-init : goal.loop-command-init
 loop-command-init g c =
     let s : State = state_of c.args.rig.now c.args.fates.now (g.W.Store.meaning c.args.wire.now) (g.R.Store.meaning c.args.resend.now) (g.K.Store.meaning c.args.keepalive.now) (take 64 c.args.table.now) in
     let r : Ready s = search rules in
-    (underway_none s (vec_items c.args.notes.now) (calls_of s c.args.commands.now), r, refl, refl, refl, refl, refl, refl, refl)
+    (underway_none s (vec_items c.args.notes.now) (calls_of s c.args.commands.now), r, refl, framed_still g.W.Store c.args.wire.now, framed_still g.R.Store c.args.resend.now, framed_still g.K.Store c.args.keepalive.now)
 
 pub returns-in_err-carry_out : goal.returns-in_err-carry_out
 returns-in_err-carry_out g c =
@@ -25,9 +26,9 @@ returns-in_err-carry_out g c =
     record {
       went = subst (λ (b : Bool). Went s (vec_items c.args.notes.now) (calls_of s c.args.commands.now) b u (vec_items c.carry_out.new.notes)) (sym (not_well c.from_residual.result c.from_residual.ensures.0)) w;
       later = e.later ∙ i.2;
-      wire = (e.wire.0 ∙ i.3, e.wire.1 ∙ i.4);
-      resend = (e.resend.0 ∙ i.5, e.resend.1 ∙ i.6);
-      keepalive = (e.keepalive.0 ∙ i.7, e.keepalive.1 ∙ i.8);
+      wire = framed_on g.W.Store _ _ _ i.3 e.wire;
+      resend = framed_on g.R.Store _ _ _ i.4 e.resend;
+      keepalive = framed_on g.K.Store _ _ _ i.5 e.keepalive;
     }
 
 pub loop-command-preserved : goal.loop-command-preserved
@@ -41,12 +42,9 @@ loop-command-preserved g c =
       command_played s (vec_items c.args.notes.now) c.args.commands.now c.loop-command.command-index _ t (vec_items c.loop-command.notes) u (vec_items c.carry_out.new.notes) i.0 c.loop-command-test.true w,
       went_ready t (vec_items c.loop-command.notes) _ true u (vec_items c.carry_out.new.notes) i.1 w,
       e.later ∙ i.2,
-      e.wire.0 ∙ i.3,
-      e.wire.1 ∙ i.4,
-      e.resend.0 ∙ i.5,
-      e.resend.1 ∙ i.6,
-      e.keepalive.0 ∙ i.7,
-      e.keepalive.1 ∙ i.8,
+      framed_on g.W.Store _ _ _ i.3 e.wire,
+      framed_on g.R.Store _ _ _ i.4 e.resend,
+      framed_on g.K.Store _ _ _ i.5 e.keepalive,
     )
 
 pub returns : goal.returns
@@ -57,7 +55,7 @@ returns g c =
     record {
       went = all_played s (vec_items c.args.notes.now) c.args.commands.now c.loop-command.command-index t (vec_items c.loop-command.notes) i.0 c.loop-command-test.false;
       later = i.2;
-      wire = (i.3, i.4);
-      resend = (i.5, i.6);
-      keepalive = (i.7, i.8);
+      wire = i.3;
+      resend = i.4;
+      keepalive = i.5;
     }

@@ -1,4 +1,5 @@
 use Rattle.std.proofs.Common.{◌≡◌, true, false, take, is_ok, vec_items, sym, refl, ◌∙◌, rules}
+use Rattle.timer.proofs.Frames.{framed_still, framed_on}
 use Rattle.protocol.specs.State.{State}
 use Rattle.protocol.specs.Rules.{step_rule}
 use Rattle.timers_law.specs.Ends.{goes_on}
@@ -13,7 +14,7 @@ pub loop-rig-init : goal.loop-rig-init
 loop-rig-init g c =
     let s : State = state_of c.args.rig.now c.args.fates.now (g.W.Store.meaning c.args.wire.now) (g.R.Store.meaning c.args.resend.now) (g.K.Store.meaning c.args.keepalive.now) (take 64 c.args.table.now) in
     let r : Ready s = search rules in
-    (underway_none s (vec_items c.args.notes.now) (steps_until s c.args.tick), r, refl, refl, refl, refl, refl, refl, refl)
+    (underway_none s (vec_items c.args.notes.now) (steps_until s c.args.tick), r, refl, framed_still g.W.Store c.args.wire.now, framed_still g.R.Store c.args.resend.now, framed_still g.K.Store c.args.keepalive.now)
 
 pub returns-then-not-branch : goal.returns-then-not-branch
 returns-then-not-branch g c =
@@ -28,9 +29,9 @@ returns-then-not-branch g c =
     record {
       went = refused s (vec_items c.args.notes.now) c.args.tick t (vec_items c.loop-rig.notes) i.0 u (vec_items c.step_once.new.notes) on k.1 k.2 no';
       later = e.later ∙ i.2;
-      wire = (e.wire.0 ∙ i.3, e.wire.1 ∙ i.4);
-      resend = (e.resend.0 ∙ i.5, e.resend.1 ∙ i.6);
-      keepalive = (e.keepalive.0 ∙ i.7, e.keepalive.1 ∙ i.8);
+      wire = framed_on g.W.Store _ _ _ i.3 e.wire;
+      resend = framed_on g.R.Store _ _ _ i.4 e.resend;
+      keepalive = framed_on g.K.Store _ _ _ i.5 e.keepalive;
     }
 
 pub loop-rig-smaller : goal.loop-rig-smaller
@@ -56,12 +57,9 @@ loop-rig-preserved g c =
       accepted s (vec_items c.args.notes.now) c.args.tick t (vec_items c.loop-rig.notes) i.0 u (vec_items c.step_once.new.notes) on k.1 k.2 i.1 ok,
       stays_ready t u i.1 k.1,
       e.later ∙ i.2,
-      e.wire.0 ∙ i.3,
-      e.wire.1 ∙ i.4,
-      e.resend.0 ∙ i.5,
-      e.resend.1 ∙ i.6,
-      e.keepalive.0 ∙ i.7,
-      e.keepalive.1 ∙ i.8,
+      framed_on g.W.Store _ _ _ i.3 e.wire,
+      framed_on g.R.Store _ _ _ i.4 e.resend,
+      framed_on g.K.Store _ _ _ i.5 e.keepalive,
     )
 
 pub returns : goal.returns
@@ -73,7 +71,7 @@ returns g c =
     record {
       went = ended s (vec_items c.args.notes.now) c.args.tick t (vec_items c.loop-rig.notes) i.0 off;
       later = i.2;
-      wire = (i.3, i.4);
-      resend = (i.5, i.6);
-      keepalive = (i.7, i.8);
+      wire = i.3;
+      resend = i.4;
+      keepalive = i.5;
     }

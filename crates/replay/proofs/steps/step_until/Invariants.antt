@@ -1,4 +1,5 @@
 use Rattle.std.proofs.Common.{◌≡◌, take, drop, vec_items}
+use Rattle.timer.specs.Frame.{Framed}
 use Rattle.protocol.specs.State.{State}
 use Rattle.timers_law.specs.Ends.{measure}
 use Rattle.timers_law.specs.Ready.{Ready}
@@ -15,12 +16,9 @@ invariant-loop-rig g l =
     Underway s (vec_items l.initial.notes) (steps_until s l.tick) (steps_until t l.tick) t (vec_items l.notes)
     × Ready t
     × (drop 64 l.table ≡ drop 64 l.initial.table)
-    × (g.W.Store.lenders l.wire ≡ g.W.Store.lenders l.initial.wire)
-    × (g.W.Store.beyond l.wire ≡ g.W.Store.beyond l.initial.wire)
-    × (g.R.Store.lenders l.resend ≡ g.R.Store.lenders l.initial.resend)
-    × (g.R.Store.beyond l.resend ≡ g.R.Store.beyond l.initial.resend)
-    × (g.K.Store.lenders l.keepalive ≡ g.K.Store.lenders l.initial.keepalive)
-    × (g.K.Store.beyond l.keepalive ≡ g.K.Store.beyond l.initial.keepalive)
+    × Framed g.W.Store l.initial.wire l.wire
+    × Framed g.R.Store l.initial.resend l.resend
+    × Framed g.K.Store l.initial.keepalive l.keepalive
 
 abbrev pub decreases-loop-rig : goal.decreases-loop-rig
 decreases-loop-rig g l =
