@@ -22,14 +22,14 @@ const LEAST_SPAN: u32 = 60_000;
 fn apart<P, Q, S: Store<P>, T: Store<Q>>(first: &S, second: &T) -> bool
     ensures { result ≡ apart (S.meaning first.now) (T.meaning second.now) }
 {
-    !(first.now() == second.now() && first.last() == second.last())
+    (first.now(), first.last()) != (second.now(), second.last())
 }
 
 // Whether a store has pending entries or gave tickets.
 fn used<P, S: Store<P>>(store: &S) -> bool
     ensures { result ≡ used (S.meaning store.now) }
 {
-    !(store.pending() == 0 && store.given() == 0)
+    store.pending() != 0 || store.given() != 0
 }
 
 // Whether a store differs from the wire in its tick or its last tick.
@@ -62,15 +62,6 @@ fn brief<P, S: Store<P>>(store: &S) -> bool
     store.last().saturating_sub(store.now()) < LEAST_SPAN
 }
 
-// Marks every record as that of a channel that was never opened.
-fn clear(records: &mut [Channel])
-    ensures { records.new ≡ replicate (length records.old) unused }
-{
-    for record in records.iter_mut() {
-        *record = Channel::unused();
-    }
-}
-
 impl Draft {
     /// A draft with a default delay and an interval of keepalives, both in ticks, and no fates.
     pub fn new(delay: u32, interval: u32) -> Draft
@@ -99,12 +90,11 @@ impl Draft {
     fn setting(&self) -> Option<u16>
         ensures { result ≡ (if bad_setting self.now.delay self.now.interval then None else Some self.now.delay) }
     {
-        if !(1 <= self.delay && self.delay <= MOST_DELAY)
-            || !(1 <= self.interval && self.interval <= MOST_INTERVAL)
-        {
-            return None;
+        if (1..=MOST_DELAY).contains(&self.delay) && (1..=MOST_INTERVAL).contains(&self.interval) {
+            Some(self.delay as u16)
+        } else {
+            None
         }
-        Some(self.delay as u16)
     }
 
     // The default delay, or why the draft cannot begin.
@@ -151,7 +141,7 @@ impl Draft {
         match self.check(wire, resend, keepalive, table.len()) {
             Err(fault) => Err(Refused { draft: self, fault }),
             Ok(delay) => {
-                clear(&mut table[0..CHANNELS]);
+                table[0..CHANNELS].fill(Channel::unused());
                 let Draft {
                     interval,
                     fates,
