@@ -1,7 +1,9 @@
-ghost use Rattle.std.specs.Prelude.{Some};
+ghost use Rattle.std.specs.Prelude.{◌≡◌, Some};
+ghost use Rattle.journal.specs.Notes.{effect_kind};
 ghost use Rattle.journal.specs.Text.{name_text, effect_text, note_text};
 
 use std::fmt;
+use timer::fault::TimerFault;
 
 /// The calls of a store that can be refused.
 #[derive(Clone, Copy, PartialEq, Eq, Drop)]
@@ -17,22 +19,60 @@ pub enum CallName {
 /// What a call of a store came to.
 #[derive(Clone, Copy, PartialEq, Eq, Drop)]
 pub enum Effect {
-    /// A timer was started: its ticket, deadline, owner and payload.
-    Started(u32, u32, u8, u32),
-    /// A timer was stopped: its ticket, owner and payload.
-    Stopped(u32, u8, u32),
-    /// A timer fired, in the tick of its deadline: its ticket, owner and payload.
-    Fired(u32, u8, u32),
+    /// A timer was started.
+    Started {
+        /// Its ticket.
+        ticket: u32,
+        /// Its deadline.
+        deadline: u32,
+        /// Its owner.
+        owner: u8,
+        /// Its payload.
+        payload: u32,
+    },
+    /// A timer was stopped.
+    Stopped {
+        /// Its ticket.
+        ticket: u32,
+        /// Its owner.
+        owner: u8,
+        /// Its payload.
+        payload: u32,
+    },
+    /// A timer fired, in the tick of its deadline.
+    Fired {
+        /// Its ticket.
+        ticket: u32,
+        /// Its owner.
+        owner: u8,
+        /// Its payload.
+        payload: u32,
+    },
     /// No timer was due.
     Idle,
     /// The tick went on by one.
     Advanced,
-    /// The call was refused, with this number.
-    Refused(CallName, u8),
+    /// The call was refused, and why.
+    Refused(CallName, TimerFault),
+}
+
+impl Effect {
+    /// The kind that a journal counts the effect by; it counts neither `Idle` nor `Advanced`.
+    pub fn kind(self) -> Option<Kind>
+        ensures { result ≡ effect_kind self }
+    {
+        match self {
+            Effect::Started { .. } => Some(Kind::Started),
+            Effect::Stopped { .. } => Some(Kind::Stopped),
+            Effect::Fired { .. } => Some(Kind::Fired),
+            Effect::Idle | Effect::Advanced => None,
+            Effect::Refused(..) => Some(Kind::Refused),
+        }
+    }
 }
 
 /// The kinds of effects that a journal counts.
-#[derive(Clone, Copy, Drop)]
+#[derive(Clone, Copy, PartialEq, Eq, Drop)]
 pub enum Kind {
     /// A timer was started.
     Started,
@@ -71,21 +111,25 @@ impl fmt::Display for Note {
     fn fmt<W: fmt::Write>(&self, f: &mut fmt::Formatter<W>) -> fmt::Result {
         let tick = self.tick;
         match self.effect {
-            Effect::Started(ticket, deadline, owner, payload) => write!(
-                f,
-                "{tick} start {ticket} {deadline} {owner} {payload}\n"
-            ),
-            Effect::Stopped(ticket, owner, payload) => write!(
-                f,
-                "{tick} stop {ticket} - {owner} {payload}\n"
-            ),
-            Effect::Fired(ticket, owner, payload) => write!(
-                f,
-                "{tick} fire {ticket} {tick} {owner} {payload}\n"
-            ),
+            Effect::Started {
+                ticket,
+                deadline,
+                owner,
+                payload,
+            } => write!(f, "{tick} start {ticket} {deadline} {owner} {payload}\n"),
+            Effect::Stopped {
+                ticket,
+                owner,
+                payload,
+            } => write!(f, "{tick} stop {ticket} - {owner} {payload}\n"),
+            Effect::Fired {
+                ticket,
+                owner,
+                payload,
+            } => write!(f, "{tick} fire {ticket} {tick} {owner} {payload}\n"),
             Effect::Idle => write!(f, "{tick} idle\n"),
             Effect::Advanced => write!(f, "{tick} advance\n"),
-            Effect::Refused(call, number) => write!(f, "{tick} {call} refused {number}\n"),
+            Effect::Refused(call, fault) => write!(f, "{tick} {call} refused {fault}\n"),
         }
     }
 }

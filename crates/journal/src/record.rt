@@ -1,6 +1,6 @@
-ghost use Rattle.std.specs.Prelude.{◌≡◌, true, ◌++◌, IfOk, Decides, OnOk};
+ghost use Rattle.std.specs.Prelude.{◌≡◌, ◌++◌, ◌↔◌, IsTrue, IfOk, OnOk};
 ghost use Rattle.timer.specs.History.{call_after, ends};
-ghost use Rattle.journal.specs.Notes.{effect_of, note_of, notes_of, coming_call, settling, settled, told, of_kind, kind_count};
+ghost use Rattle.journal.specs.Notes.{effect_of, note_of, notes_of, coming_call, settling, settled, told, kind_count};
 
 use crate::compare::agree;
 use crate::note::{CallName, Effect, Kind, Note};
@@ -17,20 +17,33 @@ fn effect<S: Store<u32>>(store: &mut S, call: Call<u32>) -> Effect
 {
     match call {
         Call::Start(deadline, owner, payload) => match store.start(deadline, owner, payload) {
-            Ok(ticket) => Effect::Started(ticket, deadline, owner, payload),
-            Err(fault) => Effect::Refused(CallName::Start, fault.number()),
+            Ok(ticket) => Effect::Started {
+                ticket,
+                deadline,
+                owner,
+                payload,
+            },
+            Err(fault) => Effect::Refused(CallName::Start, fault),
         },
         Call::Stop(ticket) => match store.stop(ticket) {
-            Ok((owner, payload)) => Effect::Stopped(ticket, owner, payload),
-            Err(fault) => Effect::Refused(CallName::Stop, fault.number()),
+            Ok((owner, payload)) => Effect::Stopped {
+                ticket,
+                owner,
+                payload,
+            },
+            Err(fault) => Effect::Refused(CallName::Stop, fault),
         },
         Call::Take => match store.take() {
-            Some(entry) => Effect::Fired(entry.ticket, entry.owner, entry.payload),
+            Some(entry) => Effect::Fired {
+                ticket: entry.ticket,
+                owner: entry.owner,
+                payload: entry.payload,
+            },
             None => Effect::Idle,
         },
         Call::Advance => match store.advance() {
             Ok(()) => Effect::Advanced,
-            Err(fault) => Effect::Refused(CallName::Advance, fault.number()),
+            Err(fault) => Effect::Refused(CallName::Advance, fault),
         },
     }
 }
@@ -63,8 +76,7 @@ pub fn play<S: Store<u32>>(
     ensures beyond { S.beyond store.new ≡ S.beyond store.old }
 {
     for call in calls {
-        let note = note(store, *call);
-        notes.push(note)?;
+        notes.push(note(store, *call))?;
     }
     Ok(())
 }
@@ -96,8 +108,7 @@ pub fn settle<S: Store<u32>>(
             return Ok(());
         }
         let call = next_call(store);
-        let note = note(store, call);
-        notes.push(note)?;
+        notes.push(note(store, call))?;
     }
     Ok(())
 }
@@ -128,8 +139,8 @@ pub fn tell_alike<S: Store<u32>, T: Store<u32>>(
     budget: u32,
     heap: Global,
 ) -> Result<bool, AllocError>
-    ensures same { IfOk result (λ same. Decides same (told (S.meaning one.old) calls.now budget ≡ told (T.meaning other.old) calls.now budget)) }
-    ensures alike { IfOk result (λ same. S.meaning one.old ≡ T.meaning other.old → same ≡ true) }
+    ensures same { IfOk result (λ same. IsTrue same ↔ (told (S.meaning one.old) calls.now budget ≡ told (T.meaning other.old) calls.now budget)) }
+    ensures alike { IfOk result (λ same. S.meaning one.old ≡ T.meaning other.old → IsTrue same) }
 {
     let notes = tell(one, calls, budget, heap)?;
     let others = tell(other, calls, budget, heap)?;
@@ -140,23 +151,8 @@ pub fn tell_alike<S: Store<u32>, T: Store<u32>>(
 pub fn how_many(notes: &[Note], kind: Kind) -> usize
     ensures { result ≡ kind_count kind notes.now }
 {
-    let mut count = 0;
-    for note in notes {
-        if is_kind(note.effect, kind) {
-            count += 1;
-        }
-    }
-    count
-}
-
-fn is_kind(effect: Effect, kind: Kind) -> bool
-    ensures { result ≡ of_kind kind effect }
-{
-    match (kind, effect) {
-        (Kind::Started, Effect::Started(_, _, _, _)) => true,
-        (Kind::Stopped, Effect::Stopped(_, _, _)) => true,
-        (Kind::Fired, Effect::Fired(_, _, _)) => true,
-        (Kind::Refused, Effect::Refused(_, _)) => true,
-        _ => false,
-    }
+    notes
+        .iter()
+        .filter(|note| note.effect.kind() == Some(kind))
+        .count()
 }

@@ -7,6 +7,7 @@ use crate::stores::Layers;
 use journal::compare::agree;
 use journal::note::{Effect, Kind, Note};
 use journal::record::how_many;
+use timer::fault::TimerFault;
 
 fn main(rt: HostRuntime) -> anyhow::Result<()> {
     run(&rt)
@@ -17,13 +18,17 @@ fn run(rt: &HostRuntime) -> anyhow::Result<()> {
     let memory = rt.alloc();
     let notes = stores::list(Layers::Bare, memory)?;
     println!(rt; "tick what ticket deadline owner payload")?;
-    print_notes(rt, &notes)?;
+    print_notes(rt, &notes, |effect| !matches!(effect, Effect::Advanced))?;
     print_end(rt, &notes)?;
     compare(rt, "heap", &notes, &stores::heap(Layers::Bare, memory)?)?;
     compare(rt, "wheel", &notes, &stores::wheel(Layers::Bare, memory)?)?;
     println!(rt; "under a quota of 3 for owner 9")?;
     let limited = stores::list(Layers::Quota, memory)?;
-    print_limited(rt, &limited)?;
+    print_notes(
+        rt,
+        &limited,
+        |effect| matches!(effect, Effect::Refused(_, TimerFault::Limit)),
+    )?;
     compare(rt, "heap", &limited, &stores::heap(Layers::Quota, memory)?)?;
     compare(
         rt,
@@ -39,24 +44,16 @@ fn run(rt: &HostRuntime) -> anyhow::Result<()> {
     )
 }
 
-// Prints the notes, but for the ticks that pass.
-fn print_notes(rt: &HostRuntime, notes: &[Note]) -> anyhow::Result<()> {
-    for note in notes {
-        match note.effect {
-            Effect::Advanced => {}
-            _ => print!(rt; "{note}")?,
-        }
-    }
-    Ok(())
-}
-
-// Prints the notes of starts that a limit refused.
-fn print_limited(rt: &HostRuntime, notes: &[Note]) -> anyhow::Result<()> {
-    for note in notes {
-        match note.effect {
-            Effect::Refused(_, 6) => print!(rt; "{note}")?,
-            _ => {}
-        }
+// Prints the notes of the effects that are to be shown.
+fn print_notes<F: Fn(&Effect) -> bool>(
+    rt: &HostRuntime,
+    notes: &[Note],
+    shown: F,
+) -> anyhow::Result<()>
+    requires { F.IsAlwaysCallable shown }
+{
+    for note in notes.iter().filter(|note| shown(&note.effect)) {
+        print!(rt; "{note}")?;
     }
     Ok(())
 }
@@ -68,10 +65,7 @@ fn print_end(rt: &HostRuntime, notes: &[Note]) -> anyhow::Result<()> {
     let fired = how_many(notes, Kind::Fired);
     let refused = how_many(notes, Kind::Refused);
     let pending = started.saturating_sub(stopped).saturating_sub(fired);
-    let tick = match notes.last() {
-        Some(note) => note.tick,
-        None => 0,
-    };
+    let tick = notes.last().map_or(0, |note| note.tick);
     println!(rt;
         "{tick} end: {started} started, {stopped} stopped, {fired} fired, {refused} refused, {pending} pending"
     )?;

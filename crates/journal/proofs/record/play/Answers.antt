@@ -7,10 +7,10 @@ use Rattle.journal.proofs.record.play.Goals as goal
 
 pub loop-call-preserved : goal.loop-call-preserved
 loop-call-preserved g c = (
-  told_more _ _ (g.S.Store.meaning c.loop-call.store) _ c.args.calls.now c.loop-call.call-index (Start 0 0 0) _ _ c.note-note.result c.loop-call-test.true c.note-note.ensures.note c.note-note.ensures.after
-      (pushed (c.note-note.result ∷ []) refl c.in_ok-push.was c.push.ensures.items) c.loop-call.invariant.0,
-  c.note-note.ensures.lenders ∙ c.loop-call.invariant.1,
-  c.note-note.ensures.beyond ∙ c.loop-call.invariant.2,
+  told_more _ _ (g.S.Store.meaning c.loop-call.store) _ c.args.calls.now c.loop-call.call-index (Start 0 0 0) _ _ c.note.result c.loop-call-test.true c.note.ensures.note c.note.ensures.after
+      (pushed (c.note.result ∷ []) refl c.in_ok-push.was c.push.ensures.items) c.loop-call.invariant.0,
+  c.note.ensures.lenders ∙ c.loop-call.invariant.1,
+  c.note.ensures.beyond ∙ c.loop-call.invariant.2,
 )
 
 pub returns : goal.returns

@@ -12,11 +12,11 @@ returns-then-pending-eq0 g c =
 pub loop-preserved : goal.loop-preserved
 loop-preserved g c =
     let e : c.args.budget - c.loop.counter ≡ suc (c.args.budget - (c.loop.counter + 1)) = omega arith in (
-      told_settling _ _ (g.S.Store.meaning c.loop.store) _ (c.args.budget - c.loop.counter) (c.args.budget - (c.loop.counter + 1)) c.next_call-call.result _ _ c.note-note.result e
-          (λ z. c.if-pending-eq0.false (c.pending.ensures ∙ z)) c.next_call-call.ensures c.note-note.ensures.note c.note-note.ensures.after
-          (pushed (c.note-note.result ∷ []) refl c.in_ok-push.was c.push.ensures.items) c.loop.invariant.0,
-      c.note-note.ensures.lenders ∙ c.loop.invariant.1,
-      c.note-note.ensures.beyond ∙ c.loop.invariant.2,
+      told_settling _ _ (g.S.Store.meaning c.loop.store) _ (c.args.budget - c.loop.counter) (c.args.budget - (c.loop.counter + 1)) c.next_call-call.result _ _ c.note.result e
+          (λ z. c.if-pending-eq0.false (c.pending.ensures ∙ z)) c.next_call-call.ensures c.note.ensures.note c.note.ensures.after
+          (pushed (c.note.result ∷ []) refl c.in_ok-push.was c.push.ensures.items) c.loop.invariant.0,
+      c.note.ensures.lenders ∙ c.loop.invariant.1,
+      c.note.ensures.beyond ∙ c.loop.invariant.2,
     )
 
 pub returns : goal.returns
