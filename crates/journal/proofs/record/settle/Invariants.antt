@@ -1,13 +1,16 @@
 use Rattle.std.proofs.Common.{◌≡◌, ◌-◌, ◌++◌, vec_items}
 use Rattle.timer.specs.History.{ends}
 use Rattle.journal.specs.Notes.{notes_of, settling}
-use Rattle.journal.proofs.Steps.{Told}
 use Rattle.journal.proofs.record.settle.Given as goal
 
+-- the notes so far with those of the calls still to come, and where these lead
 abbrev pub invariant-loop : goal.invariant-loop
 invariant-loop g l =
-    (Told (vec_items l.notes) (g.S.Store.meaning l.store) (settling (l.budget - l.counter) (g.S.Store.meaning l.store))
-    (vec_items l.initial.notes ++ notes_of (g.S.Store.meaning l.initial.store) (settling l.budget (g.S.Store.meaning l.initial.store)))
-    (ends (g.S.Store.meaning l.initial.store) (settling l.budget (g.S.Store.meaning l.initial.store))))
+    let m = g.S.Store.meaning l.store in
+    let first = g.S.Store.meaning l.initial.store in
+    let rest = settling (l.budget - l.counter) m in
+    let all = settling l.budget first in
+    (vec_items l.notes ++ notes_of m rest ≡ vec_items l.initial.notes ++ notes_of first all)
+    × (ends m rest ≡ ends first all)
     × (g.S.Store.lenders l.store ≡ g.S.Store.lenders l.initial.store)
     × (g.S.Store.beyond l.store ≡ g.S.Store.beyond l.initial.store)
