@@ -93,7 +93,7 @@ fn next_call<S: Store<u32>>(store: &S) -> Call<u32>
 }
 
 /// Takes what is due and lets the tick go on until nothing is pending, in at most `budget` calls, and adds a note of each.
-#[tactic(auto, using(crate::proofs::Steps::settling_none, crate::proofs::Steps::settling_more, std::proofs::lemmas::Grind::common_steps))]
+#[tactic(auto, using(crate::proofs::Steps::settling_steps))]
 pub fn settle<S: Store<u32>>(
     store: &mut S,
     budget: u32,
