@@ -1,4 +1,5 @@
 ghost use Rattle.std.specs.Prelude.{◌≡◌, ◌++◌, ◌↔◌, IsTrue, IfOk, OnOk};
+ghost use Rattle.timer.specs.Frame.{Framed};
 ghost use Rattle.timer.specs.History.{call_after, ends};
 ghost use Rattle.journal.specs.Notes.{effect_of, note_of, notes_of, coming_call, settling, settled, told, kind_count};
 
@@ -12,8 +13,7 @@ use timer::store::Store;
 fn effect<S: Store<u32>>(store: &mut S, call: Call<u32>) -> Effect
     ensures effect { result ≡ effect_of (S.meaning store.old) call }
     ensures after { S.meaning store.new ≡ call_after (S.meaning store.old) call }
-    ensures lenders { S.lenders store.new ≡ S.lenders store.old }
-    ensures beyond { S.beyond store.new ≡ S.beyond store.old }
+    ensures framed { Framed S.Store store.old store.new }
 {
     match call {
         Call::Start(deadline, owner, payload) => match store.start(deadline, owner, payload) {
@@ -52,8 +52,7 @@ fn effect<S: Store<u32>>(store: &mut S, call: Call<u32>) -> Effect
 pub fn note<S: Store<u32>>(store: &mut S, call: Call<u32>) -> Note
     ensures note { result ≡ note_of (S.meaning store.old) call }
     ensures after { S.meaning store.new ≡ call_after (S.meaning store.old) call }
-    ensures lenders { S.lenders store.new ≡ S.lenders store.old }
-    ensures beyond { S.beyond store.new ≡ S.beyond store.old }
+    ensures framed { Framed S.Store store.old store.new }
 {
     let effect = effect(store, call);
     Note {
@@ -72,8 +71,7 @@ pub fn play<S: Store<u32>>(
 ) -> Result<(), AllocError>
     ensures notes { OnOk result (notes.new.items ≡ notes.old.items ++ notes_of (S.meaning store.old) calls.now) }
     ensures after { OnOk result (S.meaning store.new ≡ ends (S.meaning store.old) calls.now) }
-    ensures lenders { S.lenders store.new ≡ S.lenders store.old }
-    ensures beyond { S.beyond store.new ≡ S.beyond store.old }
+    ensures framed { Framed S.Store store.old store.new }
 {
     for call in calls {
         notes.push(note(store, *call))?;
@@ -101,8 +99,7 @@ pub fn settle<S: Store<u32>>(
 ) -> Result<(), AllocError>
     ensures notes { OnOk result (notes.new.items ≡ notes.old.items ++ notes_of (S.meaning store.old) (settling budget (S.meaning store.old))) }
     ensures after { OnOk result (S.meaning store.new ≡ ends (S.meaning store.old) (settling budget (S.meaning store.old))) }
-    ensures lenders { S.lenders store.new ≡ S.lenders store.old }
-    ensures beyond { S.beyond store.new ≡ S.beyond store.old }
+    ensures framed { Framed S.Store store.old store.new }
 {
     for _ in 0..budget {
         if store.pending() == 0 {
@@ -123,8 +120,7 @@ pub fn tell<S: Store<u32>>(
 ) -> Result<Vec<Note>, AllocError>
     ensures notes { IfOk result (λ v. v.items ≡ told (S.meaning store.old) calls.now budget) }
     ensures after { OnOk result (S.meaning store.new ≡ settled (S.meaning store.old) calls.now budget) }
-    ensures lenders { S.lenders store.new ≡ S.lenders store.old }
-    ensures beyond { S.beyond store.new ≡ S.beyond store.old }
+    ensures framed { Framed S.Store store.old store.new }
 {
     let mut notes = Vec::new(heap);
     play(store, calls, &mut notes)?;

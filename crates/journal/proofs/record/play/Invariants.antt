@@ -1,4 +1,5 @@
 use Rattle.std.proofs.Common.{◌≡◌, ◌++◌, drop, vec_items}
+use Rattle.timer.specs.Frame.{Framed}
 use Rattle.timer.specs.History.{ends}
 use Rattle.journal.specs.Notes.{notes_of}
 use Rattle.journal.proofs.record.play.Given as goal
@@ -11,5 +12,4 @@ invariant-loop-call g l =
     let rest = drop l.call-index l.calls in
     (vec_items l.notes ++ notes_of m rest ≡ vec_items l.initial.notes ++ notes_of first l.calls)
     × (ends m rest ≡ ends first l.calls)
-    × (g.S.Store.lenders l.store ≡ g.S.Store.lenders l.initial.store)
-    × (g.S.Store.beyond l.store ≡ g.S.Store.beyond l.initial.store)
+    × Framed g.S.Store l.initial.store l.store

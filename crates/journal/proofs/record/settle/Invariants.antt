@@ -1,4 +1,5 @@
 use Rattle.std.proofs.Common.{◌≡◌, ◌-◌, ◌++◌, vec_items}
+use Rattle.timer.specs.Frame.{Framed}
 use Rattle.timer.specs.History.{ends}
 use Rattle.journal.specs.Notes.{notes_of, settling}
 use Rattle.journal.proofs.record.settle.Given as goal
@@ -12,5 +13,4 @@ invariant-loop g l =
     let all = settling l.budget first in
     (vec_items l.notes ++ notes_of m rest ≡ vec_items l.initial.notes ++ notes_of first all)
     × (ends m rest ≡ ends first all)
-    × (g.S.Store.lenders l.store ≡ g.S.Store.lenders l.initial.store)
-    × (g.S.Store.beyond l.store ≡ g.S.Store.beyond l.initial.store)
+    × Framed g.S.Store l.initial.store l.store
