@@ -1,14 +1,11 @@
 -- The record of a channel, and what each change makes of it.
-use Rattle.std.specs.Prelude.{ℕ, zero, suc, ◌+◌, ◌-◌, ◌%◌, min, max, Bool, true, false, cond, ◌&&◌, ◌||◌, List, set, replicate, Some, None, Option, ◌==◌, nat_le, nat_lt, slice_index_or, slice_set}
+use Rattle.std.specs.Prelude.{ℕ, zero, suc, ◌+◌, ◌-◌, ◌%◌, min, max, Bool, true, false, ◌&&◌, ◌||◌, List, replicate, Some, None, Option, is_none, ◌==◌, nat_le, nat_lt, slice_index_or, slice_set, if◌then◌else◌}
+use Rattle.std.specs.Option.{option_map}
 use Rattle.estimator.specs.declared.estimate.Estimator.{Estimator}
 use Rattle.estimator.specs.Estimate.{no_sample, ranged, sample_rule}
 use Rattle.trace.specs.declared.action.Segment.{Segment}
 use Rattle.channel.specs.declared.record.Status.{Status}
 use Rattle.channel.specs.declared.record.Status.TheVariants.{Unused, Open, Closed}
-use Rattle.channel.specs.declared.record.SendPlace.{SendPlace}
-use Rattle.channel.specs.declared.record.SendPlace.TheVariants.{Answered, Waiting}
-use Rattle.channel.specs.declared.record.ReceivePlace.{ReceivePlace}
-use Rattle.channel.specs.declared.record.ReceivePlace.TheVariants.{Empty, Filled}
 use Rattle.channel.specs.declared.record.Channel.{Channel}
 use Rattle.channel.specs.declared.record.Attempt.{Attempt}
 
@@ -23,9 +20,9 @@ starting status ticket =
       status = status;
       next = 0;
       base = 0;
-      sending = replicate 8 Answered;
+      sending = replicate 8 None;
       taken = 0;
-      receiving = replicate 8 Empty;
+      receiving = replicate 8 None;
       estimator = no_sample;
       keepalive = ticket;
     }
@@ -37,7 +34,7 @@ abbrev pub opened : ℕ → Channel
 opened ticket = starting Open ticket
 
 -- another sending half
-abbrev pub with_sending : Channel → ℕ → ℕ → List SendPlace → Estimator → Channel
+abbrev pub with_sending : Channel → ℕ → ℕ → List (Option ℕ) → Estimator → Channel
 with_sending r next base places estimator =
     record {
       status = r.status;
@@ -51,7 +48,7 @@ with_sending r next base places estimator =
     }
 
 -- another receiving half
-abbrev pub with_receiving : Channel → ℕ → List ReceivePlace → Channel
+abbrev pub with_receiving : Channel → ℕ → List (Option ℕ) → Channel
 with_receiving r taken places =
     record {
       status = r.status;
@@ -83,6 +80,12 @@ abbrev pub as_read : Channel → Channel
 as_read r =
     with_sending r (max r.base (min r.next (stop (r.base + 8)))) r.base r.sending (ranged r.estimator)
 
+-- the numbers of the states
+abbrev pub number_of : Status → ℕ
+number_of Unused = 0
+number_of Open = 1
+number_of Closed = 2
+
 -- questions
 abbrev pub status_open : Status → Bool
 status_open Unused = false
@@ -107,37 +110,33 @@ window_full r = r.next - r.base == 8
 -- sending: one more word waits, under this ticket
 abbrev pub sent : Channel → ℕ → Channel
 sent r ticket =
-    with_sending r (stop (r.next + 1)) r.base (slice_set r.sending (r.next % 8) (Waiting ticket)) r.estimator
+    with_sending r (stop (r.next + 1)) r.base (slice_set r.sending (r.next % 8) (Some ticket)) r.estimator
 
 -- the word of this number waits under another ticket
 abbrev pub resent : Channel → ℕ → ℕ → Channel
 resent r sequence ticket =
-    with_sending r r.next r.base (slice_set r.sending (sequence % 8) (Waiting ticket)) r.estimator
+    with_sending r r.next r.base (slice_set r.sending (sequence % 8) (Some ticket)) r.estimator
 
 -- the place of a number among those that were sent and may wait
-abbrev pub send_place : Channel → ℕ → SendPlace
-send_place r sequence = slice_index_or r.sending (sequence % 8) Answered
-
-abbrev pub ticket_of : SendPlace → Option ℕ
-ticket_of Answered = None
-ticket_of (Waiting ticket) = Some ticket
+abbrev pub send_place : Channel → ℕ → Option ℕ
+send_place r sequence = slice_index_or r.sending (sequence % 8) None
 
 abbrev pub in_flight : Channel → ℕ → Bool
 in_flight r sequence = nat_le r.base sequence && nat_lt sequence r.next
 
 -- the ticket under which the word of this number waits
 abbrev pub awaits : Channel → ℕ → Option ℕ
-awaits r sequence = cond (in_flight r sequence) (ticket_of (send_place r sequence)) None
+awaits r sequence = if in_flight r sequence then send_place r sequence else None
 
--- from `base` past answered places, at most to `next`, and at most so many
-abbrev pub past : SendPlace → ℕ → ℕ → ℕ
-past Answered here there = there
-past (Waiting ticket) here there = here
+-- no word waits at the place of this number
+abbrev pub is_passed : List (Option ℕ) → ℕ → Bool
+is_passed places sequence = is_none (slice_index_or places (sequence % 8) None)
 
-unfoldable pub risen : ℕ → ℕ → ℕ → List SendPlace → ℕ
+-- from `base` past such places, at most to `next`, and at most so many
+unfoldable pub risen : ℕ → ℕ → ℕ → List (Option ℕ) → ℕ
 risen zero base next places = base
 risen (suc k) base next places =
-    cond (nat_lt base next) (past (slice_index_or places (base % 8) Answered) base (risen k (stop (base + 1)) next places)) base
+    if nat_lt base next && is_passed places base then risen k (stop (base + 1)) next places else base
 
 abbrev pub sampled : Option ℕ → Estimator → Estimator
 sampled (Some ticks) e = sample_rule e ticks
@@ -146,24 +145,23 @@ sampled None e = e
 -- the word of this number was acknowledged
 abbrev pub answered : Channel → ℕ → Option ℕ → Channel
 answered r sequence sample =
-    let places : List SendPlace = set r.sending (sequence % 8) Answered in
+    let places : List (Option ℕ) = slice_set r.sending (sequence % 8) None in
     with_sending r r.next (risen 8 r.base r.next places) places (sampled sample r.estimator)
 
 -- receiving: the word to take next, if it is there
-abbrev pub receive_place : Channel → ℕ → ReceivePlace
-receive_place r sequence = slice_index_or r.receiving (sequence % 8) Empty
+abbrev pub receive_place : Channel → ℕ → Option ℕ
+receive_place r sequence = slice_index_or r.receiving (sequence % 8) None
 
-abbrev pub word_at : ReceivePlace → ℕ → Option Segment
-word_at Empty sequence = None
-word_at (Filled word) sequence = Some (record { sequence = sequence; word = word })
+abbrev pub numbered : ℕ → ℕ → Segment
+numbered sequence word = record { sequence = sequence; word = word }
 
 abbrev pub front : Channel → Option Segment
-front r = word_at (receive_place r r.taken) r.taken
+front r = option_map (numbered r.taken) (receive_place r r.taken)
 
 -- the record once that word was taken
-abbrev pub emptied : ReceivePlace → Channel → Channel
-emptied Empty r = r
-emptied (Filled word) r = with_receiving r (stop (r.taken + 1)) (slice_set r.receiving (r.taken % 8) Empty)
+abbrev pub emptied : Option ℕ → Channel → Channel
+emptied None r = r
+emptied (Some word) r = with_receiving r (stop (r.taken + 1)) (slice_set r.receiving (r.taken % 8) None)
 
 abbrev pub without_front : Channel → Channel
 without_front r = emptied (receive_place r r.taken) r
@@ -177,15 +175,15 @@ abbrev pub acknowledges : Channel → ℕ → Bool
 acknowledges r sequence = nat_lt sequence r.taken || has_place r sequence
 
 -- a word that is there already stays
-abbrev pub filled : ReceivePlace → Channel → Segment → Channel
-filled (Filled word) r segment = r
-filled Empty r segment =
-    with_receiving r r.taken (slice_set r.receiving (segment.sequence % 8) (Filled segment.word))
+abbrev pub filled : Option ℕ → Channel → Segment → Channel
+filled (Some word) r segment = r
+filled None r segment =
+    with_receiving r r.taken (slice_set r.receiving (segment.sequence % 8) (Some segment.word))
 
 -- a word arrives
 abbrev pub received : Channel → Segment → Channel
 received r segment =
-    cond (has_place r segment.sequence) (filled (receive_place r segment.sequence) r segment) r
+    if has_place r segment.sequence then filled (receive_place r segment.sequence) r segment else r
 
 -- standing
 abbrev pub closed : Channel → Channel
@@ -203,4 +201,4 @@ again a = record { segment = a.segment; tries = min 6 (a.tries + 1); sent = a.se
 
 -- only a word that was sent once gives a sample of the round-trip time
 abbrev pub sample : Attempt → ℕ → Option ℕ
-sample a now = cond (a.tries == 0) (Some (now - a.sent)) None
+sample a now = if a.tries == 0 then Some (now - a.sent) else None

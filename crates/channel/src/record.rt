@@ -1,5 +1,6 @@
-ghost use Rattle.std.specs.Prelude.{◌≡◌, ◌%◌};
-ghost use Rattle.channel.specs.Record.{starting, as_read, unused, opened, is_open, is_unused, window_full, sent, resent, awaits, risen, answered, front, without_front, has_place, acknowledges, received, closed, kept_alive, first_attempt, again, sample};
+ghost use Rattle.std.specs.Prelude.{◌≡◌, ◌-◌, ◌%◌, ◌≤◌, length, take};
+ghost use Rattle.std.specs.List.{range_with_len, take_while};
+ghost use Rattle.channel.specs.Record.{number_of, starting, as_read, unused, opened, is_open, is_unused, window_full, sent, resent, awaits, is_passed, risen, answered, front, without_front, has_place, acknowledges, received, closed, kept_alive, first_attempt, again, sample};
 
 use estimator::estimate::Estimator;
 use trace::action::Segment;
@@ -12,29 +13,20 @@ const MOST_TRIES: u32 = 6;
 #[derive(Clone, Copy, PartialEq, Eq)]
 pub enum Status {
     /// It was never opened.
-    Unused,
+    Unused = 0,
     /// Words can be sent and taken.
-    Open,
+    Open = 1,
     /// It was closed, for good.
-    Closed,
+    Closed = 2,
 }
 
-/// A place for a sent word.
-#[derive(Clone, Copy, PartialEq, Eq)]
-pub enum SendPlace {
-    /// No acknowledgement is awaited.
-    Answered,
-    /// The word waits for its acknowledgement, and its resend timer has this ticket.
-    Waiting(u32),
-}
-
-/// A place for a word that arrived.
-#[derive(Clone, Copy, PartialEq, Eq)]
-pub enum ReceivePlace {
-    /// No word is there.
-    Empty,
-    /// This word arrived and was not taken yet.
-    Filled(u32),
+impl Status {
+    /// The number that stands for the state: 0 unused, 1 open, 2 closed.
+    pub fn number(self) -> u8
+        ensures { result ≡ number_of self }
+    {
+        self as u8
+    }
 }
 
 /// The record of a channel: both its ends.
@@ -46,12 +38,12 @@ pub struct Channel {
     pub next: u32,
     /// The lowest number that may still wait for its acknowledgement.
     pub base: u32,
-    /// The places of sent words, each word's at its number modulo 8.
-    pub sending: [SendPlace; 8],
+    /// The places of sent words, each word's at its number modulo 8: the ticket of the resend timer of a word that waits for its acknowledgement.
+    pub sending: [Option<u32>; 8],
     /// How many words were taken, which is the number of the word to take next.
     pub taken: u32,
-    /// The places of words that arrived, each word's at its number modulo 8.
-    pub receiving: [ReceivePlace; 8],
+    /// The places of arriving words, each word's at its number modulo 8: a word that arrived and was not taken yet.
+    pub receiving: [Option<u32>; 8],
     /// The estimate of the round-trip time and the retransmission timeout.
     pub estimator: Estimator,
     /// The ticket of the keepalive timer.
@@ -76,21 +68,23 @@ fn place(sequence: u32) -> usize
     (sequence % WINDOW) as usize
 }
 
-// How far `base` rises past answered places, at most to `next` and at most by eight.
-fn rise(base: u32, next: u32, places: &[SendPlace; 8]) -> u32
+// How many of the next eight numbers from `base` on, below `next`, have places where no word waits.
+fn passed(base: u32, next: u32, places: &[Option<u32>; 8]) -> usize
+    ensures value { result ≡ length (take_while (is_passed places.now) (take 8 (range_with_len base (next - base)))) }
+    ensures most { result ≤ next - base }
+{
+    (base..next)
+        .take(WINDOW as usize)
+        .take_while(|sequence| places[place(*sequence)].is_none())
+        .count()
+}
+
+// How far `base` rises past places where no word waits, at most to `next` and at most by eight.
+#[tactic(auto, using(crate::proofs::Rising::risen_counts))]
+fn rise(base: u32, next: u32, places: &[Option<u32>; 8]) -> u32
     ensures { result ≡ risen 8 base next places.now }
 {
-    let mut risen = base;
-    for _turn in 0..WINDOW {
-        if risen >= next {
-            return risen;
-        }
-        match places[place(risen)] {
-            SendPlace::Answered => risen = risen.saturating_add(1),
-            SendPlace::Waiting(_) => return risen,
-        }
-    }
-    risen
+    base + passed(base, next, places) as u32
 }
 
 impl Channel {
@@ -102,9 +96,9 @@ impl Channel {
             status,
             next: 0,
             base: 0,
-            sending: [SendPlace::Answered; 8],
+            sending: [None; 8],
             taken: 0,
-            receiving: [ReceivePlace::Empty; 8],
+            receiving: [None; 8],
             estimator: Estimator::new(),
             keepalive,
         }
@@ -143,20 +137,14 @@ impl Channel {
     pub fn is_open(&self) -> bool
         ensures { result ≡ is_open self.now }
     {
-        match self.status {
-            Status::Open => true,
-            _ => false,
-        }
+        self.status == Status::Open
     }
 
     /// Whether the channel was never opened.
     pub fn is_unused(&self) -> bool
         ensures { result ≡ is_unused self.now }
     {
-        match self.status {
-            Status::Unused => true,
-            _ => false,
-        }
+        self.status == Status::Unused
     }
 
     /// Whether as many words wait as there are places.
@@ -170,7 +158,7 @@ impl Channel {
     pub fn sent(mut self, ticket: u32) -> Channel
         ensures { result ≡ sent self ticket }
     {
-        self.sending[place(self.next)] = SendPlace::Waiting(ticket);
+        self.sending[place(self.next)] = Some(ticket);
         self.next = self.next.saturating_add(1);
         self
     }
@@ -179,7 +167,7 @@ impl Channel {
     pub fn resent(mut self, sequence: u32, ticket: u32) -> Channel
         ensures { result ≡ resent self sequence ticket }
     {
-        self.sending[place(sequence)] = SendPlace::Waiting(ticket);
+        self.sending[place(sequence)] = Some(ticket);
         self
     }
 
@@ -187,12 +175,10 @@ impl Channel {
     pub fn awaits(&self, sequence: u32) -> Option<u32>
         ensures { result ≡ awaits self.now sequence }
     {
-        if sequence < self.base || sequence >= self.next {
-            return None;
-        }
-        match self.sending[place(sequence)] {
-            SendPlace::Answered => None,
-            SendPlace::Waiting(ticket) => Some(ticket),
+        if (self.base..self.next).contains(&sequence) {
+            self.sending[place(sequence)]
+        } else {
+            None
         }
     }
 
@@ -200,7 +186,7 @@ impl Channel {
     pub fn answered(mut self, sequence: u32, sample: Option<u32>) -> Channel
         ensures { result ≡ answered self sequence sample }
     {
-        self.sending[place(sequence)] = SendPlace::Answered;
+        self.sending[place(sequence)] = None;
         self.base = rise(self.base, self.next, &self.sending);
         if let Some(ticks) = sample {
             self.estimator.sample(ticks);
@@ -212,22 +198,17 @@ impl Channel {
     pub fn front(&self) -> Option<Segment>
         ensures { result ≡ front self.now }
     {
-        match self.receiving[place(self.taken)] {
-            ReceivePlace::Empty => None,
-            ReceivePlace::Filled(word) => Some(Segment {
-                sequence: self.taken,
-                word,
-            }),
-        }
+        self.receiving[place(self.taken)].map(|word| Segment {
+            sequence: self.taken,
+            word,
+        })
     }
 
     /// The record once the word to take next was taken, or the same if it is not there.
     pub fn without_front(mut self) -> Channel
         ensures { result ≡ without_front self }
     {
-        let front = place(self.taken);
-        if let ReceivePlace::Filled(_) = self.receiving[front] {
-            self.receiving[front] = ReceivePlace::Empty;
+        if self.receiving[place(self.taken)].take().is_some() {
             self.taken = self.taken.saturating_add(1);
         }
         self
@@ -237,7 +218,7 @@ impl Channel {
     fn has_place(&self, sequence: u32) -> bool
         ensures { result ≡ has_place self.now sequence }
     {
-        self.taken <= sequence && sequence <= self.taken.saturating_add(WINDOW - 1)
+        (self.taken..=self.taken.saturating_add(WINDOW - 1)).contains(&sequence)
     }
 
     /// Whether a word with this number that arrives is acknowledged: it was taken, or there is a place for it.
@@ -251,11 +232,8 @@ impl Channel {
     pub fn received(mut self, segment: Segment) -> Channel
         ensures { result ≡ received self segment }
     {
-        let place = place(segment.sequence);
         if self.has_place(segment.sequence) {
-            if let ReceivePlace::Empty = self.receiving[place] {
-                self.receiving[place] = ReceivePlace::Filled(segment.word);
-            }
+            self.receiving[place(segment.sequence)].get_or_insert(segment.word);
         }
         self
     }
@@ -303,10 +281,6 @@ impl Attempt {
     pub fn sample(&self, tick: u32) -> Option<u32>
         ensures { result ≡ sample self.now tick }
     {
-        if self.tries == 0 {
-            Some(tick.saturating_sub(self.sent))
-        } else {
-            None
-        }
+        (self.tries == 0).then(|| tick.saturating_sub(self.sent))
     }
 }

@@ -1,9 +1,9 @@
 ghost use Rattle.std.specs.Prelude.{◌≡◌};
 ghost use Rattle.timer.specs.Frame.{Framed};
 ghost use Rattle.timer.specs.Rules.{stop_rule};
-ghost use Rattle.protocol.specs.Rules.{place_cancelled, all_cancelled};
+ghost use Rattle.protocol.specs.Rules.{all_cancelled};
 
-use channel::record::{Attempt, SendPlace};
+use channel::record::Attempt;
 use timer::fault::TimerFault;
 use timer::store::Store;
 
@@ -16,22 +16,15 @@ pub fn cancel<P, S: Store<P>>(store: &mut S, ticket: u32) -> Result<(u8, P), Tim
     store.stop(ticket)
 }
 
-// Stops the resend timer of a place that waits.
-fn cancel_place<R: Store<Attempt>>(resend: &mut R, place: SendPlace)
-    ensures after { R.meaning resend.new ≡ (place_cancelled place (R.meaning resend.old)).after }
-    ensures framed { Framed R.Store resend.old resend.new }
-{
-    if let SendPlace::Waiting(ticket) = place {
-        let _ = cancel(resend, ticket);
-    }
-}
-
-/// Stops the resend timers of all places that wait.
-pub fn cancel_all<R: Store<Attempt>>(resend: &mut R, places: [SendPlace; 8])
+/// Stops the resend timers of all places where a word waits.
+#[tactic(auto, using(crate::proofs::Cancels::cancel_more, crate::proofs::Cancels::cancelled_all))]
+pub fn cancel_all<R: Store<Attempt>>(resend: &mut R, places: [Option<u32>; 8])
     ensures after { R.meaning resend.new ≡ (all_cancelled places (R.meaning resend.old)).after }
     ensures framed { Framed R.Store resend.old resend.new }
 {
     for place in places {
-        cancel_place(resend, place);
+        if let Some(ticket) = place {
+            let _ = cancel(resend, ticket);
+        }
     }
 }

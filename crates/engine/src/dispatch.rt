@@ -33,6 +33,7 @@ fn carry_copy<W: Store<Packet>>(
 }
 
 // Starts the copies of a packet with this fate on the wire, and answers how many the wire accepted.
+#[tactic(auto, unfolding(protocol::specs::Link::carry))]
 fn carry<W: Store<Packet>>(wire: &mut W, fate: u16, owner: u8, packet: Packet) -> u8
     ensures value { result ≡ (carry fate (W.meaning wire.old) owner packet).copies }
     ensures after { W.meaning wire.new ≡ (carry fate (W.meaning wire.old) owner packet).after }
@@ -48,6 +49,7 @@ fn carry<W: Store<Packet>>(wire: &mut W, fate: u16, owner: u8, packet: Packet) -
 
 impl Rig {
     // The fate of the next packet.
+    #[tactic(auto, unfolding(crate::specs::Parts::fates_of))]
     fn fate(&self, fates: &[u16]) -> u16
         ensures { result ≡ own_fate self.now fates.now }
     {

@@ -6,16 +6,12 @@ use Rattle.trace.specs.declared.fault.RigFault.{RigFault}
 use Rattle.trace.specs.declared.fault.RigFault.TheVariants as fault
 use Rattle.trace.specs.declared.queue.Queue.{Queue}
 use Rattle.protocol.specs.State.{State, table_short}
-use Rattle.protocol.specs.Rules.{Step, refuse, unless, or_store, when, no_channel, on_channel}
+use Rattle.protocol.specs.Rules.{Step, refuse, unless, or_store, no_channel, on_channel}
 
 module _ (Q : Step → Type 0) where
   pub unless_by : (b : Bool) (f : RigFault) (s : State) (p : Step) → Q (refuse f s) → (b ≡ false → Q p) → Q (unless b f s p)
   unless_by true f s p stay go = stay
   unless_by false f s p stay go = go refl
-
-  pub when_by : (b : Bool) (p other : Step) → (b ≡ true → Q p) → (b ≡ false → Q other) → Q (when b p other)
-  when_by true p other so otherwise = so refl
-  when_by false p other so otherwise = otherwise refl
 
   pub or_store_by : {A : Type 0} (q : Queue) (x : Result A TimerFault) (s : State) (k : A → Step) → ((f : TimerFault) → x ≡ Err f → Q (refuse (fault.Store (record { queue = q; fault = f })) s)) → ((a : A) → x ≡ Ok a → Q (k a)) → Q (or_store q x s k)
   or_store_by q (Ok a) s k stay go = go a refl

@@ -1,5 +1,5 @@
 -- What each call of the rig answers, and the state after it.
-use Rattle.std.specs.Prelude.{ℕ, Bool, true, false, not, ◌&&◌, ◌||◌, List, [], ◌∷◌, ◌++◌, Some, None, Ok, Err, Option, Result, ◌==◌, nat_le, nat_lt}
+use Rattle.std.specs.Prelude.{ℕ, Bool, true, false, not, if◌then◌else◌, ◌&&◌, ◌||◌, List, [], ◌∷◌, ◌++◌, Some, None, Ok, Err, Option, Result, ◌==◌, nat_le, nat_lt}
 use Rattle.timer.specs.declared.expired.Expired.{Expired}
 use Rattle.timer.specs.declared.fault.TimerFault.{TimerFault}
 use Rattle.timer.specs.Meaning.{Meaning}
@@ -15,8 +15,6 @@ use Rattle.estimator.specs.Estimate.{wait_rule}
 use Rattle.link.specs.declared.packet.Packet.{Packet}
 use Rattle.link.specs.declared.packet.Packet.TheVariants as packet
 use Rattle.channel.specs.declared.record.Attempt.{Attempt}
-use Rattle.channel.specs.declared.record.SendPlace.{SendPlace}
-use Rattle.channel.specs.declared.record.SendPlace.TheVariants.{Answered, Waiting}
 use Rattle.channel.specs.Record.{opened, is_open, is_unused, window_full, sent, resent, awaits, answered, front, without_front, acknowledges, received, closed, kept_alive, first_attempt, again, sample}
 use Rattle.protocol.specs.State.{State, with_wire, with_resend, with_keepalive, record_of, put, tick_of, last_of, in_ticks, table_short, low}
 use Rattle.protocol.specs.Link.{Transmitted, transmit}
@@ -163,14 +161,14 @@ pub record Cancelled : Type 0 where
 abbrev pub cancelled : Outcome (Result (ℕ × Attempt) TimerFault) Attempt → Cancelled
 cancelled d = record { after = d.after; events = d.events }
 
-abbrev pub place_cancelled : SendPlace → Meaning Attempt → Cancelled
-place_cancelled Answered m = record { after = m; events = [] }
-place_cancelled (Waiting ticket) m = cancelled (cancel m ticket)
+abbrev pub place_cancelled : Option ℕ → Meaning Attempt → Cancelled
+place_cancelled None m = record { after = m; events = [] }
+place_cancelled (Some ticket) m = cancelled (cancel m ticket)
 
 abbrev pub cancel_next : Cancelled → Cancelled → Cancelled
 cancel_next k l = record { after = l.after; events = k.events ++ l.events }
 
-abbrev pub all_cancelled : List SendPlace → Meaning Attempt → Cancelled
+abbrev pub all_cancelled : List (Option ℕ) → Meaning Attempt → Cancelled
 all_cancelled [] m = record { after = m; events = [] }
 all_cancelled (p ∷ ps) m = cancel_next (place_cancelled p m) (all_cancelled ps (place_cancelled p m).after)
 
@@ -205,10 +203,6 @@ live_resend s o = live s o
 abbrev pub live_keepalive : State → ℕ → Bool
 live_keepalive s o = live s o
 
-abbrev pub when : Bool → Step → Step → Step
-when true k other = k
-when false k other = other
-
 -- a packet with a word arrives
 abbrev pub acknowledge : State → ℕ → ℕ → Transmitted
 acknowledge s o sequence = transmit s o (packet.Acknowledgement sequence)
@@ -227,7 +221,7 @@ data_dropped s o segment = give (action.DataArrived o segment None) (data_receiv
 
 unfoldable pub data_rule : State → ℕ → Segment → Step
 data_rule s o segment =
-    when (acknowledges (record_of s o) segment.sequence) (data_acknowledged s o segment) (data_dropped s o segment)
+    if acknowledges (record_of s o) segment.sequence then data_acknowledged s o segment else data_dropped s o segment
 
 -- an acknowledgement arrives; only a stopped timer gives a sample
 abbrev pub sample_of : Result (ℕ × Attempt) TimerFault → ℕ → Option ℕ
@@ -261,7 +255,7 @@ told_arrival o (packet.Keepalive sequence) = action.KeepaliveArrived o sequence
 
 abbrev pub arrival : State → Expired Packet → Step
 arrival s e =
-    when (live_arrival s e.owner) (arrive s e.owner e.payload) (give (told_arrival e.owner e.payload) s)
+    if live_arrival s e.owner then arrive s e.owner e.payload else give (told_arrival e.owner e.payload) s
 
 -- a word was not acknowledged in time: it is sent again, and its timer starts anew, in another store than the packet's
 abbrev pub resend_packet : State → ℕ → Attempt → Transmitted
@@ -284,8 +278,7 @@ resend_rule s o a =
 
 abbrev pub resend : State → Expired Attempt → Step
 resend s e =
-    when (live_resend s e.owner) (resend_rule s e.owner e.payload)
-    (give (action.Resent e.owner e.payload.segment None) s)
+    if live_resend s e.owner then resend_rule s e.owner e.payload else give (action.Resent e.owner e.payload.segment None) s
 
 -- a channel's turn to give a sign of life
 abbrev pub beat_packet : State → ℕ → Transmitted
@@ -304,7 +297,7 @@ beat_rule s o =
     (or_store Keepalive (start_keepalive s o).answer (beat_packet s o).after (beat_started s o))
 
 abbrev pub beat : State → Expired ℕ → Step
-beat s e = when (live_keepalive s e.owner) (beat_rule s e.owner) (give (action.KeepaliveSent e.owner None) s)
+beat s e = if live_keepalive s e.owner then beat_rule s e.owner else give (action.KeepaliveSent e.owner None) s
 
 -- nothing was due: the three clocks go on, one after the other; what was done before a refusal stays
 abbrev pub advanced_wire : State → State

@@ -40,7 +40,7 @@ pub(crate) fn ask<W: Store<Packet>, R: Store<Attempt>, K: Store<u8>>(
     ensures { result ≡ told (state_of rig.now fates.now (W.meaning wire.now) (R.meaning resend.now) (K.meaning keepalive.now) (take 64 table.now)) question }
 {
     match question {
-        Question::Status(channel) => Answer::Number(rig.status(table, channel) as usize),
+        Question::Status(channel) => Answer::Number(rig.status_number(table, channel) as usize),
         Question::Timeout(channel) => Answer::Number(rig.timeout(table, channel) as usize),
         Question::Packets => Answer::Number(rig.packets() as usize),
         Question::Store(Queue::Wire, question) => ask_store(wire, question),

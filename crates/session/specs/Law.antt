@@ -1,5 +1,5 @@
 -- What holds of every session, whatever its commands are.
-use Rattle.std.specs.Prelude.{ℕ, List, [], ◌∷◌, ◌++◌}
+use Rattle.std.specs.Prelude.{ℕ, List, [], ◌∷◌, ◌++◌, ⊤}
 use Rattle.protocol.specs.State.{State}
 use Rattle.protocol.specs.Begin.{Begun}
 use Rattle.timers_law.specs.Timers.{Lawfuls}
@@ -41,13 +41,13 @@ taken c (x ∷ xs) (n ∷ ns) = call_taken c x n.answer ++ taken c xs ns
 -- no step is refused because a store refused
 abbrev pub call_granted : Call → Answer → Type 0
 call_granted (Operate x) (Done a) = Unrefused x a
-call_granted (Operate x) (Number n) = Unit {0}
-call_granted (Operate x) (Due b) = Unit {0}
-call_granted (Operate x) (Check f) = Unit {0}
-call_granted (Ask q) a = Unit {0}
+call_granted (Operate x) (Number n) = ⊤
+call_granted (Operate x) (Due b) = ⊤
+call_granted (Operate x) (Check f) = ⊤
+call_granted (Ask q) a = ⊤
 
 abbrev pub Granted : List Call → List Note → Type 0
-Granted [] notes = Unit {0}
+Granted [] notes = ⊤
 Granted (x ∷ xs) [] = ⊥
 Granted (x ∷ xs) (n ∷ ns) = call_granted x n.answer × Granted xs ns
 

@@ -1,5 +1,5 @@
 -- A session as a list of calls: what each answers, what is noted of it, and where the list leads.
-use Rattle.std.specs.Prelude.{ℕ, zero, suc, Bool, false, cond, List, [], ◌∷◌, ◌++◌, length, is_ok}
+use Rattle.std.specs.Prelude.{ℕ, zero, suc, Bool, false, if◌then◌else◌, List, [], ◌∷◌, ◌++◌, length, is_ok}
 use Rattle.timer.specs.Meaning.{Meaning}
 use Rattle.timer.specs.Rules.{due_rule, limit_rule, count_rule, check_rule}
 use Rattle.trace.specs.declared.queue.Queue.{Queue}
@@ -85,9 +85,9 @@ events_of s (c ∷ cs) = joined (call_events s c) (events_of (call_after s c) cs
 abbrev pub steps : ℕ → State → ℕ → List Call
 steps zero s tick = []
 steps (suc k) s tick =
-    cond (goes_on s tick)
-    (Operate operation.Step ∷ cond (is_ok (step_rule s).answer) (steps k (step_rule s).after tick) [])
-    []
+    if goes_on s tick
+    then Operate operation.Step ∷ (if is_ok (step_rule s).answer then steps k (step_rule s).after tick else [])
+    else []
 
 unfoldable pub steps_until : State → ℕ → List Call
 steps_until s tick = steps (suc (measure s tick)) s tick

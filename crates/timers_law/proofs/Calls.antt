@@ -1,5 +1,6 @@
 -- A call of the rig keeps what lasts of each store, unless it lets the tick go on.
 use Rattle.std.proofs.Common.{ℕ, Some, None, Option}
+use Rattle.std.proofs.lemmas.Bool.{cond_both}
 use Rattle.timer.specs.declared.expired.Expired.{Expired}
 use Rattle.timer.specs.Meaning.{Entry}
 use Rattle.timer.specs.Rules.{take_rule, expired}
@@ -15,7 +16,7 @@ use Rattle.protocol.specs.State.{State, record_of, in_ticks, low, with_wire, wit
 use Rattle.protocol.specs.Rules.{Events, Step, no_events, refuse, not_unused, not_open, start_keepalive, start_resend, wait_of, open_started, open_rule, next_attempt, next_segment, send_packet, send_started, send_spent, send_rule, receive_rule, cancel_resends, cancel_keepalive, close_open, close_rule, live, acknowledge, data_acknowledged, data_dropped, data_rule, stop_timer, acknowledged, acknowledgement_rule, arrive, arrival, resend_packet, restart_resend, resend_started, resend_rule, resend, beat_packet, beat_started, beat_rule, beat, tick_rule, rule}
 use Rattle.protocol.specs.declared.operation.Operation.{Operation}
 use Rattle.protocol.specs.declared.operation.Operation.TheVariants as operation
-use Rattle.protocol.proofs.Ways.{unless_by, when_by, or_store_by, on_channel_by}
+use Rattle.protocol.proofs.Ways.{unless_by, or_store_by, on_channel_by}
 use Rattle.timers_law.proofs.Ways.{Idle, fired_wire, fired_resend, fired_keepalive, step_by, moved_by}
 use Rattle.timers_law.proofs.Keeps.{Invariant, Holds, Kept, more_wire, more_resend, more_keepalive, still, noting_wire, noting_resend, noting_keepalive, transmit_keeps, cancel_all_keeps}
 
@@ -93,7 +94,7 @@ module _ (v : Invariant) (s : State) (es : Events) (h : Holds v s es) where
   data_keeps : (o : ℕ) (x : Segment) → Kept v es (data_rule s o x)
   unfolding data_rule
   data_keeps o x =
-      when_by (Kept v es) (acknowledges (record_of s o) x.sequence) (data_acknowledged s o x) (data_dropped s o x)
+      cond_both (acknowledges (record_of s o) x.sequence) (data_acknowledged s o x) (data_dropped s o x) (Kept v es)
       (λ _.
       let t = transmit_keeps v s es o (packet.Acknowledgement x.sequence) h in
       noting_wire v _ es _ (acknowledge s o x.sequence).events (still v _ _
@@ -123,7 +124,7 @@ module _ (v : Invariant) (s : State) (es : Events) (h : Holds v s es) where
 
   pub arrival_keeps : (e : Expired Packet) → Kept v es (arrival s e)
   arrival_keeps e =
-      when_by (Kept v es) (live s e.owner) _ _ (λ _. arrive_keeps e.owner e.payload) (λ _. still v s es h)
+      cond_both (live s e.owner) _ _ (Kept v es) (λ _. arrive_keeps e.owner e.payload) (λ _. still v s es h)
 
   -- a word is sent again
   resend_rule_keeps : (o : ℕ) (a : Attempt) → Kept v es (resend_rule s o a)
@@ -139,7 +140,7 @@ module _ (v : Invariant) (s : State) (es : Events) (h : Holds v s es) where
 
   pub resend_keeps : (e : Expired Attempt) → Kept v es (resend s e)
   resend_keeps e =
-      when_by (Kept v es) (live s e.owner) _ _ (λ _. resend_rule_keeps e.owner e.payload) (λ _. still v s es h)
+      cond_both (live s e.owner) _ _ (Kept v es) (λ _. resend_rule_keeps e.owner e.payload) (λ _. still v s es h)
 
   -- a channel gives a sign of life
   beat_rule_keeps : (o : ℕ) → Kept v es (beat_rule s o)
@@ -159,7 +160,7 @@ module _ (v : Invariant) (s : State) (es : Events) (h : Holds v s es) where
       }))))
 
   pub beat_keeps : (e : Expired ℕ) → Kept v es (beat s e)
-  beat_keeps e = when_by (Kept v es) (live s e.owner) _ _ (λ _. beat_rule_keeps e.owner) (λ _. still v s es h)
+  beat_keeps e = cond_both (live s e.owner) _ _ (Kept v es) (λ _. beat_rule_keeps e.owner) (λ _. still v s es h)
 
 module _ (v : Invariant) (s : State) (es : Events) (h : Holds v s es) where
   fired_wire_keeps : (e : Entry Packet) → Kept v es (fired_wire s e)

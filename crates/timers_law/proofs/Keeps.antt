@@ -1,13 +1,11 @@
 -- What starts, stops and takes keep of a store, the parts of a call keep of all three.
-use Rattle.std.proofs.Common.{◌≡◌, ℕ, zero, suc, ◌+◌, List, [], ◌∷◌, ◌++◌, sym, subst, append_assoc}
+use Rattle.std.proofs.Common.{◌≡◌, ℕ, zero, suc, ◌+◌, Option, Some, None, List, [], ◌∷◌, ◌++◌, sym, subst, append_assoc}
 use Rattle.std.proofs.lemmas.List.{append-nil}
 use Rattle.timer.specs.Meaning.{Meaning}
 use Rattle.timer.specs.Rules.{Event, start_rule, stop_rule, take_rule}
 use Rattle.link.specs.declared.packet.Packet.{Packet}
 use Rattle.link.specs.Fate.{fate_delay, fate_copies}
 use Rattle.channel.specs.declared.record.Attempt.{Attempt}
-use Rattle.channel.specs.declared.record.SendPlace.{SendPlace}
-use Rattle.channel.specs.declared.record.SendPlace.TheVariants.{Answered, Waiting}
 use Rattle.channel.specs.Record.{stop}
 use Rattle.protocol.specs.State.{State}
 use Rattle.protocol.specs.Link.{carried, carry, next_fate, transmit}
@@ -109,11 +107,11 @@ module _ (v : Invariant) where
       }
 
   -- the resend timers of a channel are stopped
-  cancel_place_keeps : (p : SendPlace) (m : Meaning Attempt) (es : List Event) → v.OnResend m es → v.OnResend (place_cancelled p m).after (es ++ (place_cancelled p m).events)
-  cancel_place_keeps Answered m es h = subst (v.OnResend m) (sym (append-nil es)) h
-  cancel_place_keeps (Waiting ticket) m es h = v.resend.stop m es ticket h
+  cancel_place_keeps : (p : Option ℕ) (m : Meaning Attempt) (es : List Event) → v.OnResend m es → v.OnResend (place_cancelled p m).after (es ++ (place_cancelled p m).events)
+  cancel_place_keeps None m es h = subst (v.OnResend m) (sym (append-nil es)) h
+  cancel_place_keeps (Some ticket) m es h = v.resend.stop m es ticket h
 
-  pub cancel_all_keeps : (ps : List SendPlace) (m : Meaning Attempt) (es : List Event) → v.OnResend m es → v.OnResend (all_cancelled ps m).after (es ++ (all_cancelled ps m).events)
+  pub cancel_all_keeps : (ps : List (Option ℕ)) (m : Meaning Attempt) (es : List Event) → v.OnResend m es → v.OnResend (all_cancelled ps m).after (es ++ (all_cancelled ps m).events)
   cancel_all_keeps [] m es h = subst (v.OnResend m) (sym (append-nil es)) h
   cancel_all_keeps (p ∷ ps) m es h =
       let l = place_cancelled p m in

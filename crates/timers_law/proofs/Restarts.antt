@@ -1,6 +1,6 @@
 -- No step is refused by a store.
 use Rattle.std.proofs.Common.{◌≡◌, ℕ, ◌<◌, ◌≤◌, true, false, ◌||◌, eqb, leb, List, [], ◌∷◌, get_or, Some, None, Ok, Option, sym, subst, arith}
-use Rattle.std.proofs.lemmas.Bool.{or_parts, and_parts, ltb-false, leb-true}
+use Rattle.std.proofs.lemmas.Bool.{cond_both, or_parts, and_parts, ltb-false, leb-true}
 use Rattle.timer.specs.declared.expired.Expired.{Expired}
 use Rattle.timer.specs.Meaning.{Entry}
 use Rattle.timer.specs.Rules.{left, expired, taken}
@@ -18,7 +18,7 @@ use Rattle.protocol.specs.declared.operation.Operation.{Operation}
 use Rattle.protocol.specs.declared.operation.Operation.TheVariants as operation
 use Rattle.timers_law.specs.Ready.{Ready}
 use Rattle.timers_law.specs.Restarts.{Granted, Unrefused, UnrefusedAll, Restarts}
-use Rattle.protocol.proofs.Ways.{when_by, or_store_by}
+use Rattle.protocol.proofs.Ways.{or_store_by}
 use Rattle.timers_law.proofs.Ways.{next_due, step_by, moved_by}
 use Rattle.timers_law.proofs.Ticks.{tick_goes}
 use Rattle.timers_law.proofs.Ready.{begun_ready, rule_ready}
@@ -34,7 +34,7 @@ acted a f e = never (cc)
 data_granted : (s : State) (o : ℕ) (x : Segment) → Grants (data_rule s o x)
 unfolding data_rule
 data_granted s o x =
-    when_by Grants (acknowledges (record_of s o) x.sequence) (data_acknowledged s o x) (data_dropped s o x)
+    cond_both (acknowledges (record_of s o) x.sequence) (data_acknowledged s o x) (data_dropped s o x) Grants
     (λ _. acted _) (λ _. acted _)
 
 acknowledged_granted : (ticket : Option ℕ) (s : State) (o sequence : ℕ) → Grants (acknowledged ticket s o sequence)
@@ -52,7 +52,7 @@ arrive_granted s o (packet.Keepalive sequence) = acted _
 
 arrival_granted : (s : State) (e : Expired Packet) → Grants (arrival s e)
 arrival_granted s e =
-    when_by Grants (live s e.owner) _ _ (λ _. arrive_granted s e.owner e.payload) (λ _. acted _)
+    cond_both (live s e.owner) _ _ Grants (λ _. arrive_granted s e.owner e.payload) (λ _. acted _)
 
 live_known : (s : State) (o : ℕ) → live s o ≡ true → o < 64
 live_known s o h = omega (arith, leb-true o 63 (and_parts (leb o 63) (is_open (record_of s o)) h).0)
@@ -72,7 +72,7 @@ module _ (s : State) (r : Ready s) (fresh : low s ≡ false) where
       let o = e.owner in
       let a = e.payload in
       let t : State = with_resend s (left s.resend e) in
-      when_by Grants (live t o) (resend_rule t o a) _
+      cond_both (live t o) (resend_rule t o a) _ Grants
       (λ l.
       let known = live_known t o l in
       let some : 1 ≤ wait_of t o (again a) = wait_some (get_or s.table o blank).estimator.timeout (again a).tries in
@@ -88,7 +88,7 @@ module _ (s : State) (r : Ready s) (fresh : low s ≡ false) where
   beat_granted e d =
       let o = e.owner in
       let t : State = with_keepalive s (left s.keepalive e) in
-      when_by Grants (live t o) (beat_rule t o) _
+      cond_both (live t o) (beat_rule t o) _ Grants
       (λ l.
       let known = live_known t o l in
       or_store_by Grants Keepalive (start_keepalive t o).answer (beat_packet t o).after (beat_started t o)

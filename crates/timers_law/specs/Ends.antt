@@ -1,5 +1,5 @@
 -- Stepping until a tick comes to an end: a number falls with every step.
-use Rattle.std.specs.Prelude.{◌≡◌, ℕ, ◌+◌, ◌-◌, ◌*◌, ◌<◌, Bool, true, ◌||◌, is_ok, count_by, nat_eq, nat_lt}
+use Rattle.std.specs.Prelude.{◌≡◌, ℕ, ◌+◌, ◌-◌, ◌*◌, ◌<◌, Bool, true, ◌||◌, is_ok, count_by, ◌==◌, nat_lt}
 use Rattle.timer.specs.Meaning.{Meaning}
 use Rattle.protocol.specs.State.{State, tick_of}
 use Rattle.protocol.specs.Rules.{any_due, step_rule}
@@ -7,7 +7,7 @@ use Rattle.timers_law.specs.Ready.{Ready}
 
 -- how many entries are due
 abbrev pub due_count : {P : Type 0} → Meaning P → ℕ
-due_count m = count_by (λ e. nat_eq e.deadline m.now) m.pending
+due_count m = count_by (λ e. e.deadline == m.now) m.pending
 
 abbrev pub all_due : State → ℕ
 all_due s = due_count s.wire + due_count s.resend + due_count s.keepalive

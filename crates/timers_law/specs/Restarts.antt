@@ -1,5 +1,5 @@
 -- No step is refused by a store.
-use Rattle.std.specs.Prelude.{List, [], ◌∷◌, Err, Result, ◌≢◌}
+use Rattle.std.specs.Prelude.{List, [], ◌∷◌, Err, Result, ◌≢◌, ⊤}
 use Rattle.trace.specs.declared.action.Action.{Action}
 use Rattle.trace.specs.declared.fault.RigFault.{RigFault}
 use Rattle.trace.specs.declared.fault.RigFault.TheVariants.{Store}
@@ -16,14 +16,14 @@ Granted a = (f : StoreFault) → a ≢ Err (Store f)
 
 -- the answer to a step; of other calls nothing is said
 abbrev pub Unrefused : Operation → Result Action RigFault → Type 0
-Unrefused (Open c) a = Unit {0}
-Unrefused (Send c word) a = Unit {0}
-Unrefused (Take c) a = Unit {0}
-Unrefused (Close c) a = Unit {0}
+Unrefused (Open c) a = ⊤
+Unrefused (Send c word) a = ⊤
+Unrefused (Take c) a = ⊤
+Unrefused (Close c) a = ⊤
 Unrefused Step a = Granted a
 
 abbrev pub UnrefusedAll : List Operation → List (Result Action RigFault) → Type 0
-UnrefusedAll [] [] = Unit {0}
+UnrefusedAll [] [] = ⊤
 UnrefusedAll [] (a ∷ answers) = ⊥
 UnrefusedAll (x ∷ xs) [] = ⊥
 UnrefusedAll (x ∷ xs) (a ∷ answers) = Unrefused x a × UnrefusedAll xs answers

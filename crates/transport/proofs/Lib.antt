@@ -1,2 +1,2 @@
-pub mod Tables
-pub mod Drafts
+mod Tables
+mod Asked

@@ -1,5 +1,4 @@
-ghost use Rattle.std.specs.Prelude.{◌≡◌, ◌≤◌, ◌||◌, length, replicate, if◌then◌else◌, Some, None, OnOk};
-ghost use Rattle.channel.specs.Record.{unused};
+ghost use Rattle.std.specs.Prelude.{◌≡◌, ◌≤◌, ◌||◌, length, if◌then◌else◌, Some, None, OnOk};
 ghost use Rattle.protocol.specs.Begin.{bad_setting, apart, used, brief, begin_check};
 ghost use Rattle.transport.specs.Begins.{Adds, unless_refused, Begins};
 
@@ -90,14 +89,13 @@ impl Draft {
     fn setting(&self) -> Option<u16>
         ensures { result ≡ (if bad_setting self.now.delay self.now.interval then None else Some self.now.delay) }
     {
-        if (1..=MOST_DELAY).contains(&self.delay) && (1..=MOST_INTERVAL).contains(&self.interval) {
-            Some(self.delay as u16)
-        } else {
-            None
-        }
+        let in_range = (1..=MOST_DELAY).contains(&self.delay)
+            && (1..=MOST_INTERVAL).contains(&self.interval);
+        in_range.then(|| self.delay as u16)
     }
 
     // The default delay, or why the draft cannot begin.
+    #[tactic(auto, unfolding(protocol::specs::Begin::begin_check))]
     fn check<W: Store<Packet>, R: Store<Attempt>, K: Store<u8>>(
         &self,
         wire: &W,
@@ -109,9 +107,7 @@ impl Draft {
         ensures room { OnOk result (64 ≤ records) }
         ensures fits { OnOk result ((W.meaning wire.now).last ≤ 4294967295) }
     {
-        let Some(delay) = self.setting() else {
-            return Err(RigFault::Setting);
-        };
+        let delay = self.setting().ok_or(RigFault::Setting)?;
         if any_apart(wire, resend, keepalive) {
             return Err(RigFault::Clocks);
         }

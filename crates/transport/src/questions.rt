@@ -1,6 +1,5 @@
-ghost use Rattle.std.specs.Prelude.{◌≡◌, take, if◌then◌else◌, Some, None};
-ghost use Rattle.protocol.specs.Questions.{number_of};
-ghost use Rattle.transport.specs.Asked.{missing, read_at, status_in, timeout_in};
+ghost use Rattle.std.specs.Prelude.{◌≡◌, take};
+ghost use Rattle.transport.specs.Asked.{known, status_in, status_number_in, timeout_in};
 
 use crate::rig::{Finished, Running};
 use channel::record::{Channel, Status};
@@ -8,45 +7,37 @@ use link::packet::Packet;
 use timer::store::Store;
 
 // The record of a channel, unless its number is above 63 or past the table.
+#[tactic(auto, using(crate::proofs::Asked::known_at, crate::proofs::Asked::known_past))]
 fn known(table: &[Channel], channel: u32) -> Option<Channel>
-    ensures { result ≡ (if missing (take 64 table.now) channel then None else Some (read_at (take 64 table.now) channel)) }
+    ensures { result ≡ known (take 64 table.now) channel }
 {
-    if channel > 63 || channel as usize >= table.len() {
+    if channel > 63 {
         return None;
     }
-    Some(table[channel as usize].read())
-}
-
-// The number of a state.
-fn number(status: Status) -> u8
-    ensures { result ≡ number_of status }
-{
-    match status {
-        Status::Unused => 0,
-        Status::Open => 1,
-        Status::Closed => 2,
-    }
+    table.get(channel as usize).copied().map(Channel::read)
 }
 
 impl Running {
-    /// The state of a channel: 0 unused, 1 open, 2 closed, 3 for a channel above 63 or past the table.
-    pub fn status(&self, table: &[Channel], channel: u32) -> u8
+    /// The state of a channel, unless its number is above 63 or past the table.
+    pub fn status(&self, table: &[Channel], channel: u32) -> Option<Status>
         ensures { result ≡ status_in (take 64 table.now) channel }
     {
-        match known(table, channel) {
-            None => 3,
-            Some(record) => number(record.status),
-        }
+        known(table, channel).map(|record| record.status)
+    }
+
+    /// The number of a channel's state: 0 unused, 1 open, 2 closed, 3 for a channel above 63 or past the table.
+    pub fn status_number(&self, table: &[Channel], channel: u32) -> u8
+        ensures { result ≡ status_number_in (take 64 table.now) channel }
+    {
+        self.status(table, channel)
+            .map_or(3, |status| status.number())
     }
 
     /// The retransmission timeout of a channel in ticks, or 0 for a channel above 63 or past the table.
     pub fn timeout(&self, table: &[Channel], channel: u32) -> u32
         ensures { result ≡ timeout_in (take 64 table.now) channel }
     {
-        match known(table, channel) {
-            None => 0,
-            Some(record) => record.estimator.timeout,
-        }
+        known(table, channel).map_or(0, |record| record.estimator.timeout)
     }
 
     /// How many packets were sent.

@@ -18,6 +18,7 @@ use trace::fault::RigFault;
 
 // The calls of a running rig. Each is lent the three stores, the table and the list of fates; of the table it uses the first 64 records.
 
+#[tactic(auto, using(crate::proofs::Tables::lent), unfolding(protocol::specs::Rules::open_rule, protocol::specs::Rules::send_rule, protocol::specs::Rules::receive_rule, protocol::specs::Rules::close_rule, protocol::specs::Rules::step_rule))]
 impl Running {
     /// Opens a channel that was never opened, and starts its keepalive timer.
     pub fn open<W: Store<Packet>, R: Store<Attempt>, K: Store<u8>>(

@@ -1,5 +1,6 @@
 -- What holds of a channel after each call.
-use Rattle.std.proofs.Common.{◌≡◌, ℕ, ◌-◌, ◌<◌, Bool, true, false, eqb, List, [], ◌∷◌, ◌++◌, length, sym, refl, ap, inl, inr, arith}
+use Rattle.std.proofs.Common.{◌≡◌, ℕ, ◌-◌, ◌<◌, Bool, true, false, eqb, List, [], ◌∷◌, ◌++◌, length, Option, Some, None, sym, refl, ap, inl, inr, arith}
+use Rattle.std.specs.Option.{option_map}
 use Rattle.std.proofs.lemmas.List.{append-nil, get_or_push, length_push}
 use Rattle.std.proofs.lemmas.Bool.{cases_eq, eqb-false, not-false, or_parts, eq-eqb, ne_eqb}
 use Rattle.timer.specs.Meaning.{Meaning}
@@ -10,10 +11,8 @@ use Rattle.trace.specs.declared.queue.Queue.TheVariants.{Resend, Keepalive}
 use Rattle.link.specs.declared.packet.Packet.TheVariants.{Data}
 use Rattle.channel.specs.declared.record.Attempt.{Attempt}
 use Rattle.channel.specs.declared.record.Channel.{Channel}
-use Rattle.channel.specs.declared.record.ReceivePlace.{ReceivePlace}
-use Rattle.channel.specs.declared.record.ReceivePlace.TheVariants.{Empty, Filled}
 use Rattle.channel.specs.declared.record.Status.TheVariants as status
-use Rattle.channel.specs.Record.{opened, is_unused, window_full, sent, receive_place, word_at, emptied, closed}
+use Rattle.channel.specs.Record.{opened, is_unused, window_full, sent, receive_place, numbered, emptied, closed}
 use Rattle.protocol.specs.declared.operation.Operation.{Operation}
 use Rattle.protocol.specs.declared.operation.Operation.TheVariants as op
 use Rattle.protocol.specs.State.{State, record_of, put, with_resend, in_ticks, table_short, low}
@@ -108,19 +107,19 @@ module _ (c : ℕ) (W T : List ℕ) (s : State) (i : Holds c W T s) where
       ]))))
 
   -- take
-  taken_keeps : (x : ReceivePlace) (k : ℕ) → k < 64 → (record_of s k).status ≡ status.Open → receive_place (record_of s k) (record_of s k).taken ≡ x →
-      Kept c W T (op.Take k) (give (action.Taken k (word_at x (record_of s k).taken)) (put s k (emptied x (record_of s k))))
-  taken_keeps Empty k l o e =
+  taken_keeps : (x : Option ℕ) (k : ℕ) → k < 64 → (record_of s k).status ≡ status.Open → receive_place (record_of s k) (record_of s k).taken ≡ x →
+      Kept c W T (op.Take k) (give (action.Taken k (option_map (numbered (record_of s k).taken) x)) (put s k (emptied x (record_of s k))))
+  taken_keeps None k l o e =
       same c W T [] (on (eqb k c) []) (put s k (record_of s k)) refl (none (eqb k c))
       (put_read c W T s i k o)
-  taken_keeps (Filled w) k l o e = elim (cases_eq k c) [
+  taken_keeps (Some w) k l o e = elim (cases_eq k c) [
     | inl own ↦
         let r : Channel = record_of s k in
-        let d : Changed W (T ++ w ∷ []) r (emptied (Filled w) r) = emptied_changes W T r (open_live c W T s i k own o) w e in
+        let d : Changed W (T ++ w ∷ []) r (emptied (Some w) r) = emptied_changes W T r (open_live c W T s i k own o) w e in
         rw (eq-eqb k c own, append-nil W)
-        (put_own c W T s i k (emptied (Filled w) r) W (T ++ w ∷ []) own l (λ n v h. h)
-        (as_open W (T ++ w ∷ []) (emptied (Filled w) r) o d.live) (λ n _ h. d.arrived n h))
-    | inr other ↦ rw (ne_eqb k c other, append-nil W, append-nil T) (put_other c W T s i k (emptied (Filled w) (record_of s k)) other)
+        (put_own c W T s i k (emptied (Some w) r) W (T ++ w ∷ []) own l (λ n v h. h)
+        (as_open W (T ++ w ∷ []) (emptied (Some w) r) o d.live) (λ n _ h. d.arrived n h))
+    | inr other ↦ rw (ne_eqb k c other, append-nil W, append-nil T) (put_other c W T s i k (emptied (Some w) (record_of s k)) other)
   ]
 
   pub take_keeps : (k : ℕ) → Kept c W T (op.Take k) (receive_rule s k)

@@ -1,11 +1,8 @@
 -- What each change makes of the record of a channel.
-use Rattle.std.proofs.Common.{◌≡◌, ℕ, ◌+◌, ◌-◌, ◌%◌, ◌<◌, ◌≤◌, true, ltb, leb, List, [], ◌∷◌, ◌++◌, set, Option, sym, refl, ◌∙◌, inl, inr, arith}
+use Rattle.std.proofs.Common.{◌≡◌, ℕ, ◌+◌, ◌-◌, ◌%◌, ◌<◌, ◌≤◌, true, ltb, leb, List, [], ◌∷◌, ◌++◌, set, Option, Some, None, sym, refl, ◌∙◌, inl, inr, arith}
 use Rattle.std.proofs.lemmas.Bool.{true≢false, cond_both, or_cases, and_parts, ltb-true, leb-true}
 use Rattle.trace.specs.declared.action.Segment.{Segment}
 use Rattle.channel.specs.declared.record.Channel.{Channel}
-use Rattle.channel.specs.declared.record.ReceivePlace.{ReceivePlace}
-use Rattle.channel.specs.declared.record.ReceivePlace.TheVariants.{Empty, Filled}
-use Rattle.channel.specs.declared.record.SendPlace.TheVariants.{Answered}
 use Rattle.channel.specs.declared.record.Status.{Status}
 use Rattle.channel.specs.Record.{stop, as_read, opened, sent, resent, answered, emptied, receive_place, has_place, acknowledges, filled, received, with_standing}
 use Rattle.words_law.proofs.Receiving.{Arrived, Word, Receives, is_filled, receives_new, receives_more, receives_taken, receives_filled, arrived_taken, arrived_filled, arrived_now}
@@ -76,7 +73,7 @@ module _ (W T : List ℕ) (r : Channel) (l : Live W T r) where
             record {
               receives = l.receives;
               sends =
-                  sends_risen 8 W (ArrivedAt r) r.next r.base (set r.sending (n % 8) Answered)
+                  sends_risen 8 W (ArrivedAt r) r.next r.base (set r.sending (n % 8) None)
                   (sends_answered W (ArrivedAt r) r.next r.base r.sending l.sends n lo hi h);
             };
         status = refl;
@@ -84,33 +81,33 @@ module _ (W T : List ℕ) (r : Channel) (l : Live W T r) where
       }
 
   -- the word to take next is taken
-  pub emptied_changes : (w : ℕ) → receive_place r r.taken ≡ Filled w → Changed W (T ++ w ∷ []) r (emptied (Filled w) r)
+  pub emptied_changes : (w : ℕ) → receive_place r r.taken ≡ Some w → Changed W (T ++ w ∷ []) r (emptied (Some w) r)
   emptied_changes w e =
       let word : Word W r.taken w = l.receives.filled r.taken w (omega arith) (omega arith) e in
       let up : stop (r.taken + 1) ≡ r.taken + 1 = omega (arith, word.0, l.sends.all, l.sends.small) in
-      let on : (n : ℕ) → ArrivedAt r n → ArrivedAt (emptied (Filled w) r) n =
+      let on : (n : ℕ) → ArrivedAt r n → ArrivedAt (emptied (Some w) r) n =
       arrived_taken r.taken (stop (r.taken + 1)) r.receiving up in
       record {
         live =
             record {
               receives = receives_taken W T r.taken (stop (r.taken + 1)) r.receiving w up l.receives e;
-              sends = sends_arrived W (ArrivedAt r) r.next r.base r.sending l.sends (ArrivedAt (emptied (Filled w) r)) on;
+              sends = sends_arrived W (ArrivedAt r) r.next r.base r.sending l.sends (ArrivedAt (emptied (Some w) r)) on;
             };
         status = refl;
         arrived = on;
       }
 
   -- a word arrives at its place
-  filled_changes : (x : ReceivePlace) (g : Segment) → receive_place r g.sequence ≡ x → r.taken ≤ g.sequence → g.sequence < r.taken + 8 → Word W g.sequence g.word → Changed W T r (filled x r g) × ArrivedAt (filled x r g) g.sequence
-  filled_changes (Filled v) g e lo hi h = (unchanged, inr (hi, is_filled (receive_place r g.sequence) v e))
-  filled_changes Empty g e lo hi h =
-      let on : (n : ℕ) → ArrivedAt r n → ArrivedAt (filled Empty r g) n =
+  filled_changes : (x : Option ℕ) (g : Segment) → receive_place r g.sequence ≡ x → r.taken ≤ g.sequence → g.sequence < r.taken + 8 → Word W g.sequence g.word → Changed W T r (filled x r g) × ArrivedAt (filled x r g) g.sequence
+  filled_changes (Some v) g e lo hi h = (unchanged, inr (hi, is_filled (receive_place r g.sequence) v e))
+  filled_changes None g e lo hi h =
+      let on : (n : ℕ) → ArrivedAt r n → ArrivedAt (filled None r g) n =
       arrived_filled r.taken r.receiving g.sequence g.word l.receives.size lo hi in (
         record {
           live =
               record {
                 receives = receives_filled W T r.taken r.receiving g.sequence g.word l.receives lo hi h;
-                sends = sends_arrived W (ArrivedAt r) r.next r.base r.sending l.sends (ArrivedAt (filled Empty r g)) on;
+                sends = sends_arrived W (ArrivedAt r) r.next r.base r.sending l.sends (ArrivedAt (filled None r g)) on;
               };
           status = refl;
           arrived = on;

@@ -11,8 +11,6 @@ use Rattle.timer.specs.Rules.{find, without, due_entry, check_rule, started, sta
 use Rattle.link.specs.declared.packet.Packet.{Packet}
 use Rattle.link.specs.Fate.{fate_delay, fate_copies}
 use Rattle.channel.specs.declared.record.Attempt.{Attempt}
-use Rattle.channel.specs.declared.record.SendPlace.{SendPlace}
-use Rattle.channel.specs.declared.record.SendPlace.TheVariants.{Answered, Waiting}
 use Rattle.channel.specs.Record.{stop}
 use Rattle.protocol.specs.Link.{carried, carry}
 use Rattle.protocol.specs.Rules.{place_cancelled, all_cancelled}
@@ -90,10 +88,10 @@ unfolding carry
 carry_keeps Q f m o p h k = carried_keeps Q (fate_copies f) m (stop (m.now + fate_delay f)) o p h k
 
 -- the timers of a channel that closes
-cancelled_keeps : (Q : ℕ → Attempt → Type 0) (p : SendPlace) (m : Meaning Attempt) → Pending Q m → Pending Q (place_cancelled p m).after
-cancelled_keeps Q Answered m h = h
-cancelled_keeps Q (Waiting t) m h = stop_keeps Q m t h
+cancelled_keeps : (Q : ℕ → Attempt → Type 0) (p : Option ℕ) (m : Meaning Attempt) → Pending Q m → Pending Q (place_cancelled p m).after
+cancelled_keeps Q None m h = h
+cancelled_keeps Q (Some t) m h = stop_keeps Q m t h
 
-pub cancel_keeps : (Q : ℕ → Attempt → Type 0) (ps : List SendPlace) (m : Meaning Attempt) → Pending Q m → Pending Q (all_cancelled ps m).after
+pub cancel_keeps : (Q : ℕ → Attempt → Type 0) (ps : List (Option ℕ)) (m : Meaning Attempt) → Pending Q m → Pending Q (all_cancelled ps m).after
 cancel_keeps Q [] m h = h
 cancel_keeps Q (p ∷ ps) m h = cancel_keeps Q ps (place_cancelled p m).after (cancelled_keeps Q p m h)

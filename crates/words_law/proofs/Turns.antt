@@ -10,13 +10,11 @@ use Rattle.link.specs.declared.packet.Packet.{Packet}
 use Rattle.link.specs.declared.packet.Packet.TheVariants as packet
 use Rattle.channel.specs.declared.record.Attempt.{Attempt}
 use Rattle.channel.specs.declared.record.Channel.{Channel}
-use Rattle.channel.specs.declared.record.SendPlace.{SendPlace}
-use Rattle.channel.specs.declared.record.SendPlace.TheVariants.{Answered, Waiting}
 use Rattle.channel.specs.declared.record.Status.TheVariants.{Open}
-use Rattle.channel.specs.Record.{is_open, resent, in_flight, send_place, ticket_of, answered, acknowledges, received, kept_alive, again}
+use Rattle.channel.specs.Record.{is_open, resent, in_flight, send_place, answered, acknowledges, received, kept_alive, again}
 use Rattle.protocol.specs.State.{State, blank, record_of, put, with_wire, with_resend, with_keepalive, tick_of, in_ticks}
 use Rattle.protocol.specs.Rules.{Step, live, wait_of, start_keepalive, data_acknowledged, data_dropped, data_rule, stop_timer, sample_of, acknowledged, acknowledgement_rule, arrive, arrival, resend_packet, restart_resend, resend_started, resend_rule, resend, beat_packet, beat_started, beat_rule, beat, advanced_wire, advanced_resend, all_advanced, advance_keepalive, advance_resend, tick_rule, by_keepalive, by_resend, by_wire, moved}
-use Rattle.protocol.proofs.Ways.{when_by, or_store_by}
+use Rattle.protocol.proofs.Ways.{or_store_by}
 use Rattle.words_law.proofs.Ways.{open_by}
 use Rattle.words_law.proofs.Receiving.{Word}
 use Rattle.words_law.proofs.Stores.{Fires, start_keeps, stop_keeps, take_keeps, take_fires, advance_keeps}
@@ -41,17 +39,17 @@ module _ (c : ℕ) (W T : List ℕ) where
       let r1 : Channel = received r g in
       let j : Holds c W T (put s k r1) = put_open c W T s i k r1 o (λ own x. (received_changes W T r x g (h own)).0) in
       let at : get_or (put s k r1).table k blank ≡ r1 = get_or-set_same s.table k r1 blank (omega (arith, i.size)) in
-      when_by Stays (acknowledges r g.sequence) (data_acknowledged s k g) (data_dropped s k g)
+      cond_both (acknowledges r g.sequence) (data_acknowledged s k g) (data_dropped s k g) Stays
       (λ a.
       transmit_keeps c W T (put s k r1) j k (packet.Acknowledgement g.sequence)
       (λ own. ((h own).0, rw at ((received_changes W T r (open_live c W T s i k own o) g (h own)).1 a))))
       (λ _. j)
 
   -- an acknowledgement
-  waiting_keeps : (x : SendPlace) (s : State) (k n : ℕ) → Holds c W T s → (record_of s k).status ≡ Open → (k ≡ c → ArrivedAt (record_of s k) n) →
-      (record_of s k).base ≤ n → n < (record_of s k).next → Stays (acknowledged (ticket_of x) s k n)
-  waiting_keeps Answered s k n i o h lo hi = put_read c W T s i k o
-  waiting_keeps (Waiting t) s k n i o h lo hi =
+  waiting_keeps : (x : Option ℕ) (s : State) (k n : ℕ) → Holds c W T s → (record_of s k).status ≡ Open → (k ≡ c → ArrivedAt (record_of s k) n) →
+      (record_of s k).base ≤ n → n < (record_of s k).next → Stays (acknowledged x s k n)
+  waiting_keeps None s k n i o h lo hi = put_read c W T s i k o
+  waiting_keeps (Some t) s k n i o h lo hi =
       let s1 : State = with_resend s (stop_timer s t).after in
       let x : Option ℕ = sample_of (stop_timer s t).answer (tick_of s) in
       let j : Holds c W T s1 = resend_keeps c W T s i (stop_timer s t).after (stop_keeps (InResend c W) s.resend t i.resend) in
@@ -61,7 +59,7 @@ module _ (c : ℕ) (W T : List ℕ) where
   unfolding acknowledgement_rule
   acknowledgement_keeps s k n i o h =
       let r : Channel = record_of s k in
-      cond_both (in_flight r n) (ticket_of (send_place r n)) None (λ x. Stays (acknowledged x s k n))
+      cond_both (in_flight r n) (send_place r n) None (λ x. Stays (acknowledged x s k n))
       (λ e.
       let both = and_parts (leb r.base n) (ltb n r.next) e in
       waiting_keeps (send_place r n) s k n i o h (leb-true r.base n both.0) (ltb-true n r.next both.1))
@@ -74,7 +72,7 @@ module _ (c : ℕ) (W T : List ℕ) where
 
   arrival_keeps : (s : State) (e : Expired Packet) → Holds c W T s → OnWire c W s.table e.owner e.payload → Stays (arrival s e)
   arrival_keeps s e i h =
-      when_by Stays (live s e.owner) _ _
+      cond_both (live s e.owner) _ _ Stays
       (λ a. let o = live_by s e.owner a in arrive_keeps e.payload s e.owner i o.0 o.1 h) (λ _. i)
 
   -- a resend timer
@@ -93,7 +91,7 @@ module _ (c : ℕ) (W T : List ℕ) where
 
   resend_due_keeps : (s : State) (e : Expired Attempt) → Holds c W T s → InResend c W e.owner e.payload → Stays (resend s e)
   resend_due_keeps s e i h =
-      when_by Stays (live s e.owner) _ _
+      cond_both (live s e.owner) _ _ Stays
       (λ a. resend_rule_keeps s e.owner e.payload i (live_by s e.owner a).1 h) (λ _. i)
 
   -- a keepalive timer
@@ -108,7 +106,7 @@ module _ (c : ℕ) (W T : List ℕ) where
 
   beat_due_keeps : (s : State) (e : Expired ℕ) → Holds c W T s → Stays (beat s e)
   beat_due_keeps s e i =
-      when_by Stays (live s e.owner) _ _ (λ a. beat_rule_keeps s e.owner i (live_by s e.owner a).1) (λ _. i)
+      cond_both (live s e.owner) _ _ Stays (λ a. beat_rule_keeps s e.owner i (live_by s e.owner a).1) (λ _. i)
 
   -- the clocks
   tick_keeps : (s : State) → Holds c W T s → Stays (tick_rule s)

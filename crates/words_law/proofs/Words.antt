@@ -1,9 +1,8 @@
 -- What is taken from a channel is what was sent on it: by induction over the calls.
-use Rattle.std.proofs.Common.{◌≡◌, ℕ, ◌+◌, ◌<◌, ◌≤◌, List, [], ◌∷◌, ◌++◌, length, get_or, drop, sym, refl, ap, ◌∙◌, subst, inl, inr, arith}
+use Rattle.std.proofs.Common.{◌≡◌, ℕ, ◌+◌, ◌<◌, ◌≤◌, List, [], ◌∷◌, ◌++◌, length, Option, get_or, drop, sym, refl, ap, ◌∙◌, subst, inl, inr, arith}
 use Rattle.std.proofs.lemmas.List.{append-nil, append_assoc, take-append-drop, length-take-le, get_or_past, get_or-replicate}
 use Rattle.std.proofs.lemmas.Bool.{cases_lt}
 use Rattle.channel.specs.declared.record.Channel.{Channel}
-use Rattle.channel.specs.declared.record.ReceivePlace.{ReceivePlace}
 use Rattle.channel.specs.declared.record.Status.{Status}
 use Rattle.channel.specs.declared.record.Status.TheVariants as status
 use Rattle.channel.specs.Record.{unused}
@@ -47,7 +46,7 @@ rule_holds c W T s i (Close k) = close_keeps c W T s i k
 rule_holds c W T s i Step = step_keeps c W T s i
 
 -- the base is no more than the receiver's window past what was taken
-near_base : (t : ℕ) (ps : List ReceivePlace) (base : ℕ) → ((n : ℕ) → n < base → Arrived t ps n) → base ≤ t + 8
+near_base : (t : ℕ) (ps : List (Option ℕ)) (base : ℕ) → ((n : ℕ) → n < base → Arrived t ps n) → base ≤ t + 8
 near_base t ps base f = elim (cases_lt (t + 8) base) [
   | inl l ↦ elim (f (t + 8) l) [ inl q ↦ omega arith | inr q ↦ omega (arith, q.0) ]
   | inr l ↦ l
