@@ -35,16 +35,5 @@ rig_number Buffer = 40
 
 -- only the refusal 14 has a store's refusal behind it
 abbrev pub store_part : RigFault → Option StoreFault
-store_part Channel = None
-store_part State = None
-store_part Window = None
 store_part (Store f) = Some f
-store_part Spent = None
-store_part Ending = None
-store_part Setting = None
-store_part Clocks = None
-store_part Used = None
-store_part Span = None
-store_part Table = None
-store_part Fates = None
-store_part Buffer = None
+store_part _ = None

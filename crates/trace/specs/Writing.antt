@@ -1,24 +1,7 @@
 -- What it means that text is written into a buffer.
-use Rattle.std.specs.Prelude.{◌≡◌, ℕ, ◌+◌, ◌<◌, ◌≤◌, List, ◌++◌, length, take, drop, Ok, Err, Result}
+use Rattle.std.specs.Prelude.{◌≡◌, ℕ, ◌<◌, ◌≤◌, List, length, take, drop, Ok, Err, Result}
 use Rattle.trace.specs.declared.fault.RigFault.{RigFault}
 use Rattle.trace.specs.declared.fault.RigFault.TheVariants.{Buffer}
-use Rattle.trace.specs.declared.sink.Out.{Out}
-
--- n more bytes fit
-abbrev pub Room : Out → ℕ → Type 0
-Room d n = d.at + n ≤ length d.buffer.now
-
--- at most n bytes were added
-abbrev pub Short : Out → ℕ → Out → Type 0
-Short d n e = e.at ≤ d.at + n
-
--- d becomes e by adding the bytes bs: the same loan, as long as it was, and past the text as it was
-pub record Adds (d : Out) (bs : List ℕ) (e : Out) : Type 0 where
-  pub lender : e.buffer.ghost_name ≡ d.buffer.ghost_name
-  pub front : take e.at e.buffer.now ≡ take d.at d.buffer.now ++ bs
-  pub rest : drop e.at e.buffer.now ≡ drop e.at d.buffer.now
-  pub end : e.at ≡ d.at + length bs
-  pub long : length e.buffer.now ≡ length d.buffer.now
 
 -- a buffer xs of at least 80 bytes becomes ys: its first n bytes, at most 80, are the text bs, and the others are as they were
 pub record Written (xs bs : List ℕ) (n : ℕ) (ys : List ℕ) : Type 0 where

@@ -1,8 +1,10 @@
-ghost use Rattle.std.specs.Prelude.{◌≡◌};
+ghost use Rattle.std.specs.Prelude.{◌≡◌, Some, decimal};
 ghost use Rattle.trace.specs.Faults.{rig_number, store_part};
 ghost use Rattle.trace.specs.declared.fault.RigFault.TheVariants.{Store};
 
 use crate::queue::StoreFault;
+use std::error::Error;
+use std::fmt;
 
 /// Why a call of the rig, or of what is around it, is refused.
 #[derive(Clone, Copy, PartialEq, Eq, Debug)]
@@ -75,3 +77,13 @@ impl From<StoreFault> for RigFault {
         RigFault::Store(fault)
     }
 }
+
+impl fmt::Display for RigFault {
+    ghost output = { λ x. Some (decimal (rig_number x)) };
+
+    fn fmt<W: fmt::Write>(&self, f: &mut fmt::Formatter<W>) -> fmt::Result {
+        write!(f, "{}", self.number())
+    }
+}
+
+impl Error for RigFault {}

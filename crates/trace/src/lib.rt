@@ -5,6 +5,5 @@ pub mod columns;
 pub mod fault;
 pub mod line;
 pub mod queue;
-mod sink;
+mod text;
 pub mod writer;
-mod writing;

@@ -33,10 +33,7 @@ impl Line {
     pub fn of_call(tick: u32, answer: Result<Action, RigFault>) -> Line
         ensures { result ≡ call_line tick answer }
     {
-        let report = match answer {
-            Ok(action) => Report::Action(action),
-            Err(fault) => Report::Refusal(fault),
-        };
+        let report = answer.map_or_else(Report::Refusal, Report::Action);
         Line { tick, report }
     }
 

@@ -39,9 +39,6 @@ impl Queue {
     pub fn named<T>(self, answer: Result<T, TimerFault>) -> Result<T, StoreFault>
         ensures { result ≡ in_queue self answer }
     {
-        match answer {
-            Ok(value) => Ok(value),
-            Err(fault) => Err(StoreFault { queue: self, fault }),
-        }
+        answer.map_err(|fault| StoreFault { queue: self, fault })
     }
 }
