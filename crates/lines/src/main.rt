@@ -97,10 +97,15 @@ const FAULTS: [RigFault; 12] = [
     RigFault::Buffer,
 ];
 
+const STORE_FAULTS: [(Queue, TimerFault); 3] = [
+    (Queue::Wire, TimerFault::Past),
+    (Queue::Resend, TimerFault::Full),
+    (Queue::Keepalive, TimerFault::Ended),
+];
+
 // A store's refusal on its way into the rig's.
 fn refused(queue: Queue, fault: TimerFault) -> Result<Action, RigFault> {
-    let answer: Result<u32, TimerFault> = Err(fault);
-    let _ticket = queue.named(answer)?;
+    queue.named(Err::<u32, TimerFault>(fault))?;
     Ok(Action::Advanced)
 }
 
@@ -111,38 +116,23 @@ fn lines(out: &mut Vec<u8>) -> Result<(), AllocError> {
     for fault in FAULTS {
         append_line(out, &Line::of_call(30, Err(fault)))?;
     }
-    append_line(
-        out,
-        &Line::of_call(30, refused(Queue::Wire, TimerFault::Past)),
-    )?;
-    append_line(
-        out,
-        &Line::of_call(30, refused(Queue::Resend, TimerFault::Full)),
-    )?;
-    append_line(
-        out,
-        &Line::of_call(30, refused(Queue::Keepalive, TimerFault::Ended)),
-    )?;
-    append_line(out, &Line::of_end(4_294_967_295, 4_294_967_295))
-}
-
-// What the line writer says of the first `room` bytes of a buffer.
-fn told(buffer: &mut [u8; 81], room: usize) -> Result<usize, RigFault> {
-    let room = room.min(81);
-    write_line(&Line::of_end(7, 12), &mut buffer[0..room])
+    for (queue, fault) in STORE_FAULTS {
+        append_line(out, &Line::of_call(30, refused(queue, fault)))?;
+    }
+    Ok(())
 }
 
 fn main(rt: HostRuntime) -> io::Result<()> {
     let mut out = Vec::new(rt.alloc());
     lines(&mut out)?;
     rt.stdout().write_all(&out)?;
-    for room in [79, 80, 81] {
-        match told(&mut [0; 81], room) {
+    rt.print(Line::of_end(u32::MAX, u32::MAX))?;
+    let line = Line::of_end(7, 12);
+    let mut buffer = [0; 81];
+    for room in 79..=81 {
+        match write_line(&line, &mut buffer[..room]) {
             Ok(length) => println!(rt; "{room} bytes: wrote {length}")?,
-            Err(fault) => {
-                let number = fault.number();
-                println!(rt; "{room} bytes: refused {number}")?
-            }
+            Err(fault) => println!(rt; "{room} bytes: refused {fault}")?,
         }
     }
     Ok(())
