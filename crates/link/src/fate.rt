@@ -9,12 +9,10 @@ const TWICE: u16 = 32_768;
 pub fn fate_of(fates: &[u16], taken: usize, default: u16, packet: u32) -> u16
     ensures { result ≡ packet_fate fates.now taken default packet }
 {
-    let index = packet as usize;
-    if index < taken && index < fates.len() {
-        fates[index]
-    } else {
-        default
-    }
+    fates[..taken.min(fates.len())]
+        .get(packet as usize)
+        .copied()
+        .unwrap_or(default)
 }
 
 /// After how many ticks a packet with this fate arrives, or 0 if it is lost.
