@@ -22,6 +22,7 @@ pub struct RoundTrip {
 }
 
 // The only place where a quotient is rounded.
+#[tactic(auto, unfolding(crate::specs::Estimate::rounded))]
 fn rounded(dividend: u32, divisor: u32) -> u32
     requires { 0 < divisor }
     ensures { result ≡ rounded dividend divisor }
