@@ -1,4 +1,5 @@
-// The text of a line, made in memory of a fixed size: every column but the first follows a space.
+// The text of a line, made in a string of a fixed room. `write!` does not serve here: a `Display` promises only what it writes
+// where it succeeds, and a line that has room has to be written.
 ghost use Rattle.std.specs.Prelude.{◌≡◌, ◌+◌, ◌<◌, ◌≤◌, ◌++◌, Some, decimal};
 ghost use Rattle.arrayvec.specs.ArrayString.{array_string_len};
 ghost use Rattle.trace.specs.Text.{letter_field, no_field, number_field, option_field, packet_fields, store_fields, row_text, refusal_text, end_text, text};
@@ -15,18 +16,18 @@ use std::fmt;
 
 type Text = ArrayString<LINE_BYTES>;
 
-// A text that begins with a number.
-fn begin(n: u32) -> Text
-    ensures adds { result.bytes ≡ decimal n }
+// The first column.
+fn with_tick(tick: u32) -> Text
+    ensures adds { result.bytes ≡ decimal tick }
     ensures short { array_string_len result ≤ 10 }
 {
     let mut text = Text::new();
-    text.push_str(Buffer::new().format(n));
+    text.push_str(Buffer::new().format(tick));
     text
 }
 
 fn push_letter(text: &mut Text, letter: u8)
-    requires room { array_string_len text.old + 2 ≤ 80 }
+    requires room { array_string_len text.old + 2 ≤ LINE_BYTES }
     requires ascii { letter < 128 }
     ensures { text.new.bytes ≡ text.old.bytes ++ letter_field letter }
 {
@@ -35,14 +36,14 @@ fn push_letter(text: &mut Text, letter: u8)
 }
 
 fn push_none(text: &mut Text)
-    requires { array_string_len text.old + 2 ≤ 80 }
+    requires { array_string_len text.old + 2 ≤ LINE_BYTES }
     ensures { text.new.bytes ≡ text.old.bytes ++ no_field }
 {
     text.push_str(" -");
 }
 
 fn push_number(text: &mut Text, n: u32)
-    requires { array_string_len text.old + 11 ≤ 80 }
+    requires { array_string_len text.old + 11 ≤ LINE_BYTES }
     ensures adds { text.new.bytes ≡ text.old.bytes ++ number_field n }
     ensures short { array_string_len text.new ≤ array_string_len text.old + 11 }
 {
@@ -51,7 +52,7 @@ fn push_number(text: &mut Text, n: u32)
 }
 
 fn push_option(text: &mut Text, n: Option<u32>)
-    requires { array_string_len text.old + 11 ≤ 80 }
+    requires { array_string_len text.old + 11 ≤ LINE_BYTES }
     ensures adds { text.new.bytes ≡ text.old.bytes ++ option_field n }
     ensures short { array_string_len text.new ≤ array_string_len text.old + 11 }
 {
@@ -63,7 +64,7 @@ fn push_option(text: &mut Text, n: Option<u32>)
 
 // Packet, delay and copies.
 fn push_packet(text: &mut Text, transmission: Option<Transmission>)
-    requires { array_string_len text.old + 33 ≤ 80 }
+    requires { array_string_len text.old + 33 ≤ LINE_BYTES }
     ensures adds { text.new.bytes ≡ text.old.bytes ++ packet_fields transmission }
     ensures short { array_string_len text.new ≤ array_string_len text.old + 33 }
 {
@@ -83,7 +84,7 @@ fn push_packet(text: &mut Text, transmission: Option<Transmission>)
 
 // The store's letter and the number of its refusal.
 fn push_store(text: &mut Text, fault: Option<StoreFault>)
-    requires { array_string_len text.old + 13 ≤ 80 }
+    requires { array_string_len text.old + 13 ≤ LINE_BYTES }
     ensures adds { text.new.bytes ≡ text.old.bytes ++ store_fields fault }
     ensures short { array_string_len text.new ≤ array_string_len text.old + 13 }
 {
@@ -104,7 +105,7 @@ fn row(tick: u32, columns: Columns) -> Text
     requires { columns.letter < 128 }
     ensures { result.bytes ≡ row_text tick columns }
 {
-    let mut text = begin(tick);
+    let mut text = with_tick(tick);
     push_letter(&mut text, columns.letter);
     push_number(&mut text, u32::from(columns.channel));
     push_option(&mut text, columns.sequence);
@@ -118,7 +119,7 @@ fn row(tick: u32, columns: Columns) -> Text
 fn refusal(tick: u32, fault: RigFault) -> Text
     ensures { result.bytes ≡ refusal_text tick fault }
 {
-    let mut text = begin(tick);
+    let mut text = with_tick(tick);
     push_letter(&mut text, b'X');
     push_number(&mut text, u32::from(fault.number()));
     push_store(&mut text, fault.store_fault());
@@ -130,7 +131,7 @@ fn refusal(tick: u32, fault: RigFault) -> Text
 fn end(tick: u32, packets: u32) -> Text
     ensures { result.bytes ≡ end_text tick packets }
 {
-    let mut text = begin(tick);
+    let mut text = with_tick(tick);
     push_letter(&mut text, b'E');
     push_number(&mut text, packets);
     text.push('\n');
