@@ -2,7 +2,7 @@
 // where it succeeds, and a line that has room has to be written.
 ghost use Rattle.std.specs.Prelude.{◌≡◌, ◌+◌, ◌<◌, ◌≤◌, ◌++◌, Some, decimal};
 ghost use Rattle.arrayvec.specs.ArrayString.{array_string_len};
-ghost use Rattle.trace.specs.Text.{letter_field, no_field, number_field, option_field, packet_fields, store_fields, row_text, refusal_text, end_text, text};
+ghost use Rattle.trace.specs.Text.{letter_field, number_field, option_field, packet_fields, store_fields, row_text, refusal_text, end_text, text};
 
 use crate::action::Transmission;
 use crate::columns::Columns;
@@ -35,13 +35,6 @@ fn push_letter(text: &mut Text, letter: u8)
     text.push(char::from(letter));
 }
 
-fn push_none(text: &mut Text)
-    requires { array_string_len text.old + 2 ≤ LINE_BYTES }
-    ensures { text.new.bytes ≡ text.old.bytes ++ no_field }
-{
-    text.push_str(" -");
-}
-
 fn push_number(text: &mut Text, n: u32)
     requires { array_string_len text.old + 11 ≤ LINE_BYTES }
     ensures adds { text.new.bytes ≡ text.old.bytes ++ number_field n }
@@ -58,7 +51,7 @@ fn push_option(text: &mut Text, n: Option<u32>)
 {
     match n {
         Some(n) => push_number(text, n),
-        None => push_none(text),
+        None => text.push_str(" -"),
     }
 }
 
@@ -74,11 +67,7 @@ fn push_packet(text: &mut Text, transmission: Option<Transmission>)
             push_number(text, u32::from(sent.delay));
             push_number(text, u32::from(sent.copies));
         }
-        None => {
-            push_none(text);
-            push_none(text);
-            push_none(text);
-        }
+        None => text.push_str(" - - -"),
     }
 }
 
@@ -93,10 +82,7 @@ fn push_store(text: &mut Text, fault: Option<StoreFault>)
             push_letter(text, fault.queue.letter());
             push_number(text, u32::from(fault.fault.number()));
         }
-        None => {
-            push_none(text);
-            push_none(text);
-        }
+        None => text.push_str(" - -"),
     }
 }
 
@@ -140,7 +126,7 @@ fn end(tick: u32, packets: u32) -> Text
 
 impl Line {
     // An advance has the empty text.
-    pub(crate) fn text(&self) -> ArrayString<LINE_BYTES>
+    pub(crate) fn text(&self) -> Text
         ensures { result.bytes ≡ text self.now }
     {
         match self.report {
