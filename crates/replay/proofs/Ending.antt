@@ -1,8 +1,8 @@
 -- From a draft to the end of its session.
-use Rattle.std.proofs.Common.{◌≡◌, ℕ, ◌≤◌, Bool, true, List, [], take, None, vec_items, sym, ap, ◌∙◌, subst}
+use Rattle.std.proofs.Common.{◌≡◌, ℕ, ◌≤◌, Bool, true, List, [], length, take, None, vec_items, sym, ap, ◌∙◌, subst}
 use Rattle.channel.specs.declared.record.Channel.{Channel}
 use Rattle.protocol.specs.State.{State, tick_of, fresh_table}
-use Rattle.protocol.specs.Begin.{Begun, begin_check}
+use Rattle.protocol.specs.Begin.{Begun}
 use Rattle.timers_law.specs.Ready.{Ready}
 use Rattle.timers_law.proofs.Begins.{begins}
 use Rattle.timers_law.proofs.Ready.{begun_ready}
@@ -17,29 +17,30 @@ use Rattle.session.specs.Run.{calls_of, notes_of, ends}
 use Rattle.session.specs.Text.{session_text}
 use Rattle.session.proofs.Runs.{laws}
 use Rattle.replay.specs.declared.outcome.Session.{Session}
-use Rattle.replay.specs.Outcome.{Lent, first_state, Holds, Played, Broken}
+use Rattle.replay.specs.Lent.{Held}
+use Rattle.replay.specs.Outcome.{first_state, refusal, Holds, Played, Broken}
 use Rattle.replay.proofs.Playing.{all_made}
 
-module _ (d : Draft) (fates : List ℕ) (l : Lent) (rig : Running) (t : List Channel) (is : rig ≡ started d) (clear : take 64 t ≡ fresh_table) where
+module _ (d : Draft) (l : Held) (rig : Running) (t : List Channel) (is : rig ≡ started d) (clear : take 64 t ≡ fresh_table) where
   -- the rig begins in the first state
-  pub begun_state : state_of rig fates l.wire l.resend l.keepalive (take 64 t) ≡ first_state d fates l
+  pub begun_state : state_of rig l.fates l.wire l.resend l.keepalive (take 64 t) ≡ first_state d l
   begun_state =
-      ap (λ (x : Running). state_of x fates l.wire l.resend l.keepalive (take 64 t)) is
-      ∙ ap (λ (x : List Channel). state_of (started d) fates l.wire l.resend l.keepalive x) clear
+      ap (λ (x : Running). state_of x l.fates l.wire l.resend l.keepalive (take 64 t)) is
+      ∙ ap (λ (x : List Channel). state_of (started d) l.fates l.wire l.resend l.keepalive x) clear
 
-  module _ (n : ℕ) (none : begin_check d.delay d.interval l.wire l.resend l.keepalive n ≡ None) (fits : l.wire.last ≤ 4294967295) where
-    pub first_begun : Begun (first_state d fates l)
-    first_begun = begins d.delay d.interval (fates_of fates d.fates d.delay) l.wire l.resend l.keepalive n none fits
+  module _ (none : refusal d l ≡ None) (fits : l.wire.last ≤ 4294967295) where
+    pub first_begun : Begun (first_state d l)
+    first_begun = begins d.delay d.interval (fates_of l.fates d.fates d.delay) l.wire l.resend l.keepalive (length l.table) none fits
 
-    pub first_ready : Ready (state_of rig fates l.wire l.resend l.keepalive (take 64 t))
-    first_ready = subst (λ (s : State). Ready s) (sym begun_state) (begun_ready (first_state d fates l) first_begun)
+    pub first_ready : Ready (state_of rig l.fates l.wire l.resend l.keepalive (take 64 t))
+    first_ready = subst (λ (s : State). Ready s) (sym begun_state) (begun_ready (first_state d l) first_begun)
 
 -- the same, told from the first state and no notes
 pub from_first : (s z : State) (ns : List Note) (xs : List Command) (well : Bool) (u : State) (ms : List Note) → z ≡ s → ns ≡ [] → Went z ns (calls_of z xs) well u ms → Went s [] (calls_of s xs) well u ms
 from_first s z ns xs well u ms e f w =
     subst (λ (x : State). Went x [] (calls_of x xs) well u ms) e (subst (λ (x : List Note). Went z x (calls_of z xs) well u ms) f w)
 
-pub played : (s : State) (xs : List Command) (u : State) (session : Session) (l : Lent) → Begun s → Went s [] (calls_of s xs) true u (vec_items session.notes) → session.finished.tick ≡ tick_of u → session.finished.packets ≡ u.packets → vec_items session.text ≡ session_text (vec_items session.notes) session.finished.tick session.finished.packets → Holds u l → Played s xs session l
+pub played : (s : State) (xs : List Command) (u : State) (session : Session) (l : Held) → Begun s → Went s [] (calls_of s xs) true u (vec_items session.notes) → session.finished.tick ≡ tick_of u → session.finished.packets ≡ u.packets → vec_items session.text ≡ session_text (vec_items session.notes) session.finished.tick session.finished.packets → Holds u l → Played s xs session l
 played s xs u session l b w k p x h =
     let q : Progress s [] (calls_of s xs) u (vec_items session.notes) = all_made s [] (calls_of s xs) u (vec_items session.notes) w in
     let tick : session.finished.tick ≡ tick_of (ends s (calls_of s xs)) = k ∙ ap (λ (z : State). tick_of z) q.reached in
@@ -59,7 +60,7 @@ played s xs u session l b w k p x h =
     }
 
 -- memory ran out
-pub broken : (s : State) (xs : List Command) (well : Bool) (u : State) (ms : List Note) (l : Lent) → Went s [] (calls_of s xs) well u ms → Holds u l → Broken s xs l
+pub broken : (s : State) (xs : List Command) (well : Bool) (u : State) (ms : List Note) (l : Held) → Went s [] (calls_of s xs) well u ms → Holds u l → Broken s xs l
 broken s xs well u ms l w h =
     record {
       done = w.done;

@@ -1,3 +1,4 @@
+pub mod Keeping
 pub mod Stepping
 pub mod Playing
 pub mod Ending

@@ -1,11 +1,10 @@
 -- Rigs that begin alike are in the same state.
-use Rattle.std.proofs.Common.{◌≡◌, ℕ, ◌<◌, Bool, cond, List, length, get_or, Ok, Err, Option, Result, sym, ap, ◌∙◌, arith, lt-ltb}
+use Rattle.std.proofs.Common.{◌≡◌, ℕ, ◌<◌, Bool, cond, List, length, get_or, Ok, Err, Result, sym, ap, ◌∙◌, arith, lt-ltb}
 use mathlib.Core.Path.{fun_ext}
 use Rattle.std.proofs.lemmas.List.{same_lists, get_or_default}
 use Rattle.timer.specs.History.{Fresh}
 use Rattle.timer.specs.Meaning.{Meaning}
 use Rattle.timer.specs.Rules.{limit_rule}
-use Rattle.trace.specs.declared.fault.RigFault.{RigFault}
 use Rattle.protocol.specs.State.{State, tick_of, begun}
 use Rattle.protocol.specs.Begin.{Begun}
 use Rattle.transport.specs.declared.rig.Draft.{Draft}
@@ -15,7 +14,8 @@ use Rattle.session.specs.Text.{session_text}
 use Rattle.replay.specs.declared.outcome.Session.{Session}
 use Rattle.replay.specs.declared.outcome.Stopped.{Stopped}
 use Rattle.replay.specs.Alike.{Same, Alike, Indistinguishable, Both}
-use Rattle.replay.specs.Outcome.{Lent, first_state, Played, Outcome}
+use Rattle.replay.specs.Lent.{Held}
+use Rattle.replay.specs.Outcome.{first_state, Played, Outcome}
 
 -- limits that answer alike are the same list
 limit_at : {P : Type 0} (m : Meaning P) (k : ℕ) → k < 64 → limit_rule m k ≡ get_or m.limits k 0
@@ -36,13 +36,13 @@ same_store m n h f g p q =
     λ i. record { now = h.now i; last = h.last i; capacity = h.capacity i; limits = limits i; given = given i; pending = pending i }
 
 -- what every store has
-pub record Sized (l : Lent) : Type 0 where
+pub record Sized (l : Held) : Type 0 where
   pub wire : length l.wire.limits ≡ 64
   pub resend : length l.resend.limits ≡ 64
   pub keepalive : length l.keepalive.limits ≡ 64
 
-same_state : (d e : Draft) (xs ys : List ℕ) (l m : Lent) → Alike d e xs ys l m → Sized l → Sized m → Begun (first_state d xs l) → Begun (first_state e ys m) → first_state d xs l ≡ first_state e ys m
-same_state d e xs ys l m a p q b c =
+same_state : (d e : Draft) (l m : Held) → Alike d e l m → Sized l → Sized m → Begun (first_state d l) → Begun (first_state e m) → first_state d l ≡ first_state e m
+same_state d e l m a p q b c =
     let fate = fun_ext a.fates in
     let wire = same_store l.wire m.wire a.wire b.wire c.wire p.wire q.wire in
     let resend = same_store l.resend m.resend a.resend b.resend c.resend p.resend q.resend in
@@ -50,7 +50,7 @@ same_state d e xs ys l m a p q b c =
     λ i. begun (a.interval i) (fate i) (wire i) (resend i) (keepalive i)
 
 -- sessions from the same state are the same
-same_session : (s t : State) (xs : List Command) (a b : Session) (l m : Lent) → s ≡ t → Played s xs a l → Played t xs b m → Indistinguishable a b
+same_session : (s t : State) (xs : List Command) (a b : Session) (l m : Held) → s ≡ t → Played s xs a l → Played t xs b m → Indistinguishable a b
 same_session s t xs a b l m e p q =
     let tick : a.finished.tick ≡ b.finished.tick = p.tick ∙ ap (λ (z : State). tick_of (ends z (calls_of z xs))) e ∙ sym q.tick in
     let packets : a.finished.packets ≡ b.finished.packets = p.packets ∙ ap (λ (z : State). (ends z (calls_of z xs)).packets) e ∙ sym q.packets in
@@ -63,10 +63,10 @@ same_session s t xs a b l m e p q =
           ∙ sym q.text;
     }
 
-pub indistinguishable : (c k : Option RigFault) (d e : Draft) (xs ys : List ℕ) (commands : List Command) (l m : Lent) (r o : Result Session Stopped) (n h : Lent) → Sized l → Sized m → Outcome c d xs commands l r n → Outcome k e ys commands m o h → Alike d e xs ys l m → Both r o
-indistinguishable c k d e xs ys commands l m (Ok a) (Ok b) n h u v p q s =
-    same_session (first_state d xs l) (first_state e ys m) commands a b n h
-    (same_state d e xs ys l m s u v p.1.begins q.1.begins) p.1 q.1
-indistinguishable c k d e xs ys commands l m (Ok a) (Err f) n h u v p q s = tt
-indistinguishable c k d e xs ys commands l m (Err f) (Ok b) n h u v p q s = tt
-indistinguishable c k d e xs ys commands l m (Err f) (Err g) n h u v p q s = tt
+pub indistinguishable : (d e : Draft) (commands : List Command) (l m : Held) (r o : Result Session Stopped) (n h : Held) → Sized l → Sized m → Outcome d commands l r n → Outcome e commands m o h → Alike d e l m → Both r o
+indistinguishable d e commands l m (Ok a) (Ok b) n h u v p q s =
+    same_session (first_state d l) (first_state e m) commands a b n h
+    (same_state d e l m s u v p.1.begins q.1.begins) p.1 q.1
+indistinguishable d e commands l m (Ok a) (Err f) n h u v p q s = tt
+indistinguishable d e commands l m (Err f) (Ok b) n h u v p q s = tt
+indistinguishable d e commands l m (Err f) (Err g) n h u v p q s = tt

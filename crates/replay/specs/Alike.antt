@@ -1,12 +1,12 @@
 -- Rigs that cannot be told apart.
-use Rattle.std.specs.Prelude.{◌≡◌, ℕ, List, Ok, Err, vec_items, Result}
+use Rattle.std.specs.Prelude.{◌≡◌, ℕ, Ok, Err, vec_items, Result}
 use Rattle.timer.specs.Meaning.{Meaning}
 use Rattle.timer.specs.Rules.{limit_rule}
 use Rattle.transport.specs.declared.rig.Draft.{Draft}
 use Rattle.transport.specs.Parts.{fates_of}
 use Rattle.replay.specs.declared.outcome.Session.{Session}
 use Rattle.replay.specs.declared.outcome.Stopped.{Stopped}
-use Rattle.replay.specs.Outcome.{Lent}
+use Rattle.replay.specs.Lent.{Held}
 
 -- two stores have the same clock, capacity and limits
 pub record Same {P : Type 0} (m n : Meaning P) : Type 0 where
@@ -16,9 +16,9 @@ pub record Same {P : Type 0} (m n : Meaning P) : Type 0 where
   pub limits : (owner : ℕ) → limit_rule m owner ≡ limit_rule n owner
 
 -- two drafts with the same interval and the same fate for every packet, over stores that are the same one by one
-pub record Alike (d e : Draft) (xs ys : List ℕ) (l m : Lent) : Type 0 where
+pub record Alike (d e : Draft) (l m : Held) : Type 0 where
   pub interval : d.interval ≡ e.interval
-  pub fates : (packet : ℕ) → fates_of xs d.fates d.delay packet ≡ fates_of ys e.fates e.delay packet
+  pub fates : (packet : ℕ) → fates_of l.fates d.fates d.delay packet ≡ fates_of m.fates e.fates e.delay packet
   pub wire : Same l.wire m.wire
   pub resend : Same l.resend m.resend
   pub keepalive : Same l.keepalive m.keepalive

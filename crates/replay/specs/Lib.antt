@@ -1,3 +1,4 @@
+pub mod Lent
 pub mod Noting
 pub mod Outcome
 pub mod Alike

@@ -1,8 +1,9 @@
-ghost use Rattle.std.specs.Prelude.{◌≡◌, take};
-ghost use Rattle.transport.specs.Parts.{state_of};
+ghost use Rattle.std.specs.Prelude.{◌≡◌};
 ghost use Rattle.session.specs.Run.{store_told, told};
+ghost use Rattle.replay.specs.Lent.{state_of};
 
-use channel::record::{Attempt, Channel};
+use crate::lent::Lent;
+use channel::record::Attempt;
 use link::packet::Packet;
 use session::answer::Answer;
 use session::command::{Question, StoreQuestion};
@@ -30,21 +31,17 @@ fn ask_store<P, S: Store<P>>(store: &S, question: StoreQuestion) -> Answer
 /// Asks the rig or one of its stores.
 pub(crate) fn ask<W: Store<Packet>, R: Store<Attempt>, K: Store<u8>>(
     rig: &Running,
-    wire: &W,
-    resend: &R,
-    keepalive: &K,
-    table: &[Channel],
-    fates: &[u16],
+    lent: &Lent<'_, W, R, K>,
     question: Question,
 ) -> Answer
-    ensures { result ≡ told (state_of rig.now fates.now (W.meaning wire.now) (R.meaning resend.now) (K.meaning keepalive.now) (take 64 table.now)) question }
+    ensures { result ≡ told (state_of rig.now W.Store R.Store K.Store lent.now) question }
 {
     match question {
-        Question::Status(channel) => Answer::Number(rig.status_number(table, channel) as usize),
-        Question::Timeout(channel) => Answer::Number(rig.timeout(table, channel) as usize),
+        Question::Status(channel) => Answer::Number(usize::from(rig.status_number(lent.table, channel))),
+        Question::Timeout(channel) => Answer::Number(rig.timeout(lent.table, channel) as usize),
         Question::Packets => Answer::Number(rig.packets() as usize),
-        Question::Store(Queue::Wire, question) => ask_store(wire, question),
-        Question::Store(Queue::Resend, question) => ask_store(resend, question),
-        Question::Store(Queue::Keepalive, question) => ask_store(keepalive, question),
+        Question::Store(Queue::Wire, question) => ask_store(lent.wire, question),
+        Question::Store(Queue::Resend, question) => ask_store(lent.resend, question),
+        Question::Store(Queue::Keepalive, question) => ask_store(lent.keepalive, question),
     }
 }

@@ -1,6 +1,7 @@
 #![tactic(auto)]
 
 mod ask;
+pub mod lent;
 mod note;
 mod operate;
 pub mod outcome;

@@ -1,12 +1,11 @@
-ghost use Rattle.std.specs.Prelude.{◌≡◌, take, drop};
 ghost use Rattle.protocol.specs.Obeys.{Obeys};
-ghost use Rattle.timer.specs.Frame.{Framed};
 ghost use Rattle.protocol.specs.Rules.{rule};
-ghost use Rattle.transport.specs.Parts.{state_of};
+ghost use Rattle.replay.specs.Lent.{Kept, state_of};
 ghost use Rattle.replay.specs.Noting.{Performed};
 
 use crate::ask::ask;
-use channel::record::{Attempt, Channel};
+use crate::lent::Lent;
+use channel::record::Attempt;
 use link::packet::Packet;
 use protocol::operation::Operation;
 use session::answer::Answer;
@@ -19,50 +18,67 @@ use transport::rig::Running;
 // Makes a call that can change the rig.
 fn operate<W: Store<Packet>, R: Store<Attempt>, K: Store<u8>>(
     rig: &mut Running,
-    wire: &mut W,
-    resend: &mut R,
-    keepalive: &mut K,
-    table: &mut [Channel],
-    fates: &[u16],
+    lent: &mut Lent<'_, W, R, K>,
     operation: Operation,
 ) -> Result<Action, RigFault>
-    ensures obeys { Obeys (λ s. rule s operation) (state_of rig.old fates.now (W.meaning wire.old) (R.meaning resend.old) (K.meaning keepalive.old) (take 64 table.old)) result (state_of rig.new fates.now (W.meaning wire.new) (R.meaning resend.new) (K.meaning keepalive.new) (take 64 table.new)) }
-    ensures later { drop 64 table.new ≡ drop 64 table.old }
-    ensures wire { Framed W.Store wire.old wire.new }
-    ensures resend { Framed R.Store resend.old resend.new }
-    ensures keepalive { Framed K.Store keepalive.old keepalive.new }
+    ensures obeys { Obeys (λ s. rule s operation) (state_of rig.old W.Store R.Store K.Store lent.old) result (state_of rig.new W.Store R.Store K.Store lent.new) }
+    ensures kept { Kept W.Store R.Store K.Store lent.old lent.new }
 {
     match operation {
-        Operation::Open(channel) => rig.open(wire, resend, keepalive, table, fates, channel),
-        Operation::Send(channel, word) => rig.send(
-            wire, resend, keepalive, table, fates, channel, word,
+        Operation::Open(channel) => rig.open(
+            lent.wire,
+            lent.resend,
+            lent.keepalive,
+            lent.table,
+            lent.fates,
+            channel,
         ),
-        Operation::Take(channel) => rig.take(wire, resend, keepalive, table, fates, channel),
-        Operation::Close(channel) => rig.close(wire, resend, keepalive, table, fates, channel),
-        Operation::Step => rig.step(wire, resend, keepalive, table, fates),
+        Operation::Send(channel, word) => rig.send(
+            lent.wire,
+            lent.resend,
+            lent.keepalive,
+            lent.table,
+            lent.fates,
+            channel,
+            word,
+        ),
+        Operation::Take(channel) => rig.take(
+            lent.wire,
+            lent.resend,
+            lent.keepalive,
+            lent.table,
+            lent.fates,
+            channel,
+        ),
+        Operation::Close(channel) => rig.close(
+            lent.wire,
+            lent.resend,
+            lent.keepalive,
+            lent.table,
+            lent.fates,
+            channel,
+        ),
+        Operation::Step => rig.step(
+            lent.wire,
+            lent.resend,
+            lent.keepalive,
+            lent.table,
+            lent.fates,
+        ),
     }
 }
 
 /// Makes one call of a session.
 pub(crate) fn perform<W: Store<Packet>, R: Store<Attempt>, K: Store<u8>>(
     rig: &mut Running,
-    wire: &mut W,
-    resend: &mut R,
-    keepalive: &mut K,
-    table: &mut [Channel],
-    fates: &[u16],
+    lent: &mut Lent<'_, W, R, K>,
     call: Call,
 ) -> Answer
-    ensures performed { Performed (state_of rig.old fates.now (W.meaning wire.old) (R.meaning resend.old) (K.meaning keepalive.old) (take 64 table.old)) call result (state_of rig.new fates.now (W.meaning wire.new) (R.meaning resend.new) (K.meaning keepalive.new) (take 64 table.new)) }
-    ensures later { drop 64 table.new ≡ drop 64 table.old }
-    ensures wire { Framed W.Store wire.old wire.new }
-    ensures resend { Framed R.Store resend.old resend.new }
-    ensures keepalive { Framed K.Store keepalive.old keepalive.new }
+    ensures performed { Performed (state_of rig.old W.Store R.Store K.Store lent.old) call result (state_of rig.new W.Store R.Store K.Store lent.new) }
+    ensures kept { Kept W.Store R.Store K.Store lent.old lent.new }
 {
     match call {
-        Call::Operate(operation) => Answer::Done(operate(
-            rig, wire, resend, keepalive, table, fates, operation,
-        )),
-        Call::Ask(question) => ask(rig, wire, resend, keepalive, table, fates, question),
+        Call::Operate(operation) => Answer::Done(operate(rig, lent, operation)),
+        Call::Ask(question) => ask(rig, lent, question),
     }
 }

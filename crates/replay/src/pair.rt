@@ -1,12 +1,11 @@
-ghost use Rattle.std.specs.Prelude.{◌≡◌, length, drop};
-ghost use Rattle.timer.specs.Frame.{Framed};
-ghost use Rattle.protocol.specs.Begin.{begin_check};
 ghost use Rattle.replay.specs.Alike.{Alike, Both};
+ghost use Rattle.replay.specs.Lent.{Kept, held};
 ghost use Rattle.replay.specs.Outcome.{Outcome};
 
+use crate::lent::Lent;
 use crate::outcome::{Session, Stopped};
 use crate::run::run;
-use channel::record::{Attempt, Channel};
+use channel::record::Attempt;
 use link::packet::Packet;
 use session::command::Command;
 use std::alloc::Global;
@@ -36,41 +35,18 @@ pub fn run_pair<
 >(
     heap: Global,
     draft: Draft,
-    wire: &mut W,
-    resend: &mut R,
-    keepalive: &mut K,
-    table: &mut [Channel],
-    fates: &[u16],
+    lent: &mut Lent<'_, W, R, K>,
     other_draft: Draft,
-    other_wire: &mut X,
-    other_resend: &mut S,
-    other_keepalive: &mut L,
-    other_table: &mut [Channel],
-    other_fates: &[u16],
+    other: &mut Lent<'_, X, S, L>,
     commands: &[Command],
 ) -> Pair
-    ensures first { Outcome (begin_check draft.delay draft.interval (W.meaning wire.entry.now) (R.meaning resend.old) (K.meaning keepalive.old) (length table.old)) draft fates.now commands.now (record { wire = W.meaning wire.entry.now; resend = R.meaning resend.old; keepalive = K.meaning keepalive.old; table = table.old }) result.first (record { wire = W.meaning wire.exit.now; resend = R.meaning resend.new; keepalive = K.meaning keepalive.new; table = table.new }) }
-    ensures second { Outcome (begin_check other_draft.delay other_draft.interval (X.meaning other_wire.old) (S.meaning other_resend.old) (L.meaning other_keepalive.old) (length other_table.old)) other_draft other_fates.now commands.now (record { wire = X.meaning other_wire.old; resend = S.meaning other_resend.old; keepalive = L.meaning other_keepalive.old; table = other_table.old }) result.second (record { wire = X.meaning other_wire.new; resend = S.meaning other_resend.new; keepalive = L.meaning other_keepalive.new; table = other_table.new }) }
-    ensures alike { Alike draft other_draft fates.now other_fates.now (record { wire = W.meaning wire.entry.now; resend = R.meaning resend.old; keepalive = K.meaning keepalive.old; table = table.old }) (record { wire = X.meaning other_wire.old; resend = S.meaning other_resend.old; keepalive = L.meaning other_keepalive.old; table = other_table.old }) → Both result.first result.second }
-    ensures later { drop 64 table.new ≡ drop 64 table.old }
-    ensures wire { Framed W.Store wire.old wire.new }
-    ensures resend { Framed R.Store resend.old resend.new }
-    ensures keepalive { Framed K.Store keepalive.old keepalive.new }
-    ensures other_later { drop 64 other_table.new ≡ drop 64 other_table.old }
-    ensures other_wire { Framed X.Store other_wire.old other_wire.new }
-    ensures other_resend { Framed S.Store other_resend.old other_resend.new }
-    ensures other_keepalive { Framed L.Store other_keepalive.old other_keepalive.new }
+    ensures first { Outcome draft commands.now (held W.Store R.Store K.Store lent.old) result.first (held W.Store R.Store K.Store lent.new) }
+    ensures second { Outcome other_draft commands.now (held X.Store S.Store L.Store other.old) result.second (held X.Store S.Store L.Store other.new) }
+    ensures alike { Alike draft other_draft (held W.Store R.Store K.Store lent.old) (held X.Store S.Store L.Store other.old) → Both result.first result.second }
+    ensures kept { Kept W.Store R.Store K.Store lent.old lent.new }
+    ensures other_kept { Kept X.Store S.Store L.Store other.old other.new }
 {
-    let first = run(heap, draft, wire, resend, keepalive, table, fates, commands);
-    let second = run(
-        heap,
-        other_draft,
-        other_wire,
-        other_resend,
-        other_keepalive,
-        other_table,
-        other_fates,
-        commands,
-    );
+    let first = run(heap, draft, lent, commands);
+    let second = run(heap, other_draft, other, commands);
     Pair { first, second }
 }

@@ -1,12 +1,11 @@
-ghost use Rattle.std.specs.Prelude.{◌≡◌, length, drop};
-ghost use Rattle.timer.specs.Frame.{Framed};
-ghost use Rattle.protocol.specs.Begin.{begin_check};
+ghost use Rattle.replay.specs.Lent.{Kept, held};
 ghost use Rattle.replay.specs.Outcome.{Outcome};
 
+use crate::lent::Lent;
 use crate::outcome::{Session, Stopped};
 use crate::play::play;
 use crate::print::print;
-use channel::record::{Attempt, Channel};
+use channel::record::Attempt;
 use link::packet::Packet;
 use session::command::Command;
 use std::alloc::Global;
@@ -19,25 +18,16 @@ use transport::rig::Draft;
 pub fn run<W: Store<Packet>, R: Store<Attempt>, K: Store<u8>>(
     heap: Global,
     draft: Draft,
-    wire: &mut W,
-    resend: &mut R,
-    keepalive: &mut K,
-    table: &mut [Channel],
-    fates: &[u16],
+    lent: &mut Lent<'_, W, R, K>,
     commands: &[Command],
 ) -> Result<Session, Stopped>
-    ensures outcome { Outcome (begin_check draft.delay draft.interval (W.meaning wire.entry.now) (R.meaning resend.old) (K.meaning keepalive.old) (length table.old)) draft fates.now commands.now (record { wire = W.meaning wire.entry.now; resend = R.meaning resend.old; keepalive = K.meaning keepalive.old; table = table.old }) result (record { wire = W.meaning wire.exit.now; resend = R.meaning resend.new; keepalive = K.meaning keepalive.new; table = table.new }) }
-    ensures later { drop 64 table.new ≡ drop 64 table.old }
-    ensures wire { Framed W.Store wire.old wire.new }
-    ensures resend { Framed R.Store resend.old resend.new }
-    ensures keepalive { Framed K.Store keepalive.old keepalive.new }
+    ensures outcome { Outcome draft commands.now (held W.Store R.Store K.Store lent.old) result (held W.Store R.Store K.Store lent.new) }
+    ensures kept { Kept W.Store R.Store K.Store lent.old lent.new }
 {
-    let mut rig = draft.begin(wire, resend, keepalive, table)?;
+    let mut rig = draft.begin(lent.wire, lent.resend, lent.keepalive, lent.table)?;
     let mut notes = Vec::new(heap);
-    play(
-        &mut rig, wire, resend, keepalive, table, fates, &mut notes, commands,
-    )?;
-    let finished = rig.finish(wire);
+    play(&mut rig, lent, &mut notes, commands)?;
+    let finished = rig.finish(lent.wire);
     let text = print(heap, &notes, finished.tick(), finished.packets())?;
     Ok(Session {
         notes,

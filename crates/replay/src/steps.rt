@@ -1,17 +1,17 @@
-ghost use Rattle.std.specs.Prelude.{◌≡◌, ◌||◌, [], ◌∷◌, ◌++◌, take, drop, is_ok, MatchResult, nat_lt};
-ghost use Rattle.timer.specs.Frame.{Framed};
+ghost use Rattle.std.specs.Prelude.{◌≡◌, ◌||◌, [], ◌∷◌, ◌++◌, is_ok, MatchResult, nat_lt};
 ghost use Rattle.timer.specs.Rules.{due_rule};
 ghost use Rattle.protocol.specs.State.{State};
 ghost use Rattle.timers_law.specs.Ready.{Ready};
-ghost use Rattle.transport.specs.Parts.{state_of};
 ghost use Rattle.protocol.specs.Rules.{step_rule};
 ghost use Rattle.protocol.specs.declared.operation.Operation.TheVariants.{Step};
 ghost use Rattle.session.specs.declared.command.Call.TheVariants.{Operate};
 ghost use Rattle.session.specs.Run.{is_accepted, note_of, steps_until};
 ghost use Rattle.session.specs.Progress.{Went};
+ghost use Rattle.replay.specs.Lent.{Held, Kept, held, state_of};
 
+use crate::lent::Lent;
 use crate::note::note;
-use channel::record::{Attempt, Channel};
+use channel::record::Attempt;
 use link::packet::Packet;
 use protocol::operation::Operation;
 use session::answer::{Answer, Note};
@@ -22,14 +22,12 @@ use transport::rig::Running;
 
 // Whether there is something to step for: the tick is below this one, or an entry is due.
 fn goes_on<W: Store<Packet>, R: Store<Attempt>, K: Store<u8>>(
-    wire: &W,
-    resend: &R,
-    keepalive: &K,
+    lent: &Lent<'_, W, R, K>,
     tick: u32,
 ) -> bool
-    ensures { result ≡ (nat_lt (W.meaning wire.now).now tick || (due_rule (W.meaning wire.now) || (due_rule (R.meaning resend.now) || due_rule (K.meaning keepalive.now)))) }
+    ensures { let l : Held = held W.Store R.Store K.Store lent.now in result ≡ (nat_lt l.wire.now tick || (due_rule l.wire || (due_rule l.resend || due_rule l.keepalive))) }
 {
-    wire.now() < tick || wire.due() || resend.due() || keepalive.due()
+    lent.wire.now() < tick || lent.wire.due() || lent.resend.due() || lent.keepalive.due()
 }
 
 // Whether an operation was accepted.
@@ -45,52 +43,29 @@ fn accepted(answer: Answer) -> bool
 // Makes and notes one step, and answers whether it was accepted.
 fn step_once<W: Store<Packet>, R: Store<Attempt>, K: Store<u8>>(
     rig: &mut Running,
-    wire: &mut W,
-    resend: &mut R,
-    keepalive: &mut K,
-    table: &mut [Channel],
-    fates: &[u16],
+    lent: &mut Lent<'_, W, R, K>,
     notes: &mut Vec<Note>,
 ) -> Result<bool, AllocError>
-    ensures cases { MatchResult result (λ ok. (ok ≡ is_ok (step_rule (state_of rig.old fates.now (W.meaning wire.old) (R.meaning resend.old) (K.meaning keepalive.old) (take 64 table.old))).answer) × (state_of rig.new fates.now (W.meaning wire.new) (R.meaning resend.new) (K.meaning keepalive.new) (take 64 table.new) ≡ (step_rule (state_of rig.old fates.now (W.meaning wire.old) (R.meaning resend.old) (K.meaning keepalive.old) (take 64 table.old))).after) × (notes.new.items ≡ notes.old.items ++ note_of (state_of rig.old fates.now (W.meaning wire.old) (R.meaning resend.old) (K.meaning keepalive.old) (take 64 table.old)) (Operate Step) ∷ [])) (λ _. (state_of rig.new fates.now (W.meaning wire.new) (R.meaning resend.new) (K.meaning keepalive.new) (take 64 table.new) ≡ state_of rig.old fates.now (W.meaning wire.old) (R.meaning resend.old) (K.meaning keepalive.old) (take 64 table.old)) × (notes.new.items ≡ notes.old.items)) }
-    ensures later { drop 64 table.new ≡ drop 64 table.old }
-    ensures wire { Framed W.Store wire.old wire.new }
-    ensures resend { Framed R.Store resend.old resend.new }
-    ensures keepalive { Framed K.Store keepalive.old keepalive.new }
+    ensures cases { let s : State = state_of rig.old W.Store R.Store K.Store lent.old in let t : State = state_of rig.new W.Store R.Store K.Store lent.new in MatchResult result (λ ok. (ok ≡ is_ok (step_rule s).answer) × (t ≡ (step_rule s).after) × (notes.new.items ≡ notes.old.items ++ note_of s (Operate Step) ∷ [])) (λ _. (t ≡ s) × (notes.new.items ≡ notes.old.items)) }
+    ensures kept { Kept W.Store R.Store K.Store lent.old lent.new }
 {
-    let answer = note(
-        rig,
-        wire,
-        resend,
-        keepalive,
-        table,
-        fates,
-        notes,
-        Call::Operate(Operation::Step),
-    )?;
+    let answer = note(rig, lent, notes, Call::Operate(Operation::Step))?;
     Ok(accepted(answer))
 }
 
 /// Steps until a tick, and notes every step.
 pub(crate) fn step_until<W: Store<Packet>, R: Store<Attempt>, K: Store<u8>>(
     rig: &mut Running,
-    wire: &mut W,
-    resend: &mut R,
-    keepalive: &mut K,
-    table: &mut [Channel],
-    fates: &[u16],
+    lent: &mut Lent<'_, W, R, K>,
     notes: &mut Vec<Note>,
     tick: u32,
 ) -> Result<(), AllocError>
-    requires ready { let s : State = state_of rig.old fates.now (W.meaning wire.old) (R.meaning resend.old) (K.meaning keepalive.old) (take 64 table.old) in Ready s }
-    ensures went { let s : State = state_of rig.old fates.now (W.meaning wire.old) (R.meaning resend.old) (K.meaning keepalive.old) (take 64 table.old) in Went s notes.old.items (steps_until s tick) (is_ok result) (state_of rig.new fates.now (W.meaning wire.new) (R.meaning resend.new) (K.meaning keepalive.new) (take 64 table.new)) notes.new.items }
-    ensures later { drop 64 table.new ≡ drop 64 table.old }
-    ensures wire { Framed W.Store wire.old wire.new }
-    ensures resend { Framed R.Store resend.old resend.new }
-    ensures keepalive { Framed K.Store keepalive.old keepalive.new }
+    requires ready { Ready (state_of rig.old W.Store R.Store K.Store lent.old) }
+    ensures went { let s : State = state_of rig.old W.Store R.Store K.Store lent.old in Went s notes.old.items (steps_until s tick) (is_ok result) (state_of rig.new W.Store R.Store K.Store lent.new) notes.new.items }
+    ensures kept { Kept W.Store R.Store K.Store lent.old lent.new }
 {
-    while goes_on(wire, resend, keepalive, tick) {
-        if !step_once(rig, wire, resend, keepalive, table, fates, notes)? {
+    while goes_on(lent, tick) {
+        if !step_once(rig, lent, notes)? {
             return Ok(());
         }
     }

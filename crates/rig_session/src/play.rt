@@ -6,6 +6,7 @@ use crate::script;
 use anyhow::anyhow;
 use channel::record::{Attempt, Channel};
 use link::packet::Packet;
+use replay::lent::Lent;
 use replay::pair::{Pair, run_pair};
 use std::alloc::Global;
 use timer::store::Store;
@@ -105,20 +106,20 @@ fn play<
     let mut other_table = [Channel::unused(); 64];
     let mut limited = Quota::new(wire, [script::WIRE_QUOTA; 64]);
     let mut other_limited = Quota::new(other_wire, [script::WIRE_QUOTA; 64]);
-    Ok(run_pair(
-        heap,
-        draft,
-        &mut limited,
-        resend,
-        keepalive,
-        &mut table,
-        &fates,
-        other_draft,
+    let mut lent = Lent::new(&mut limited, resend, keepalive, &mut table, &fates);
+    let mut other = Lent::new(
         &mut other_limited,
         other_resend,
         other_keepalive,
         &mut other_table,
         &other_fates,
+    );
+    Ok(run_pair(
+        heap,
+        draft,
+        &mut lent,
+        other_draft,
+        &mut other,
         &script::commands(),
     ))
 }
