@@ -7,24 +7,18 @@ use Rattle.replay.specs.Lent.{state_of}
 use Rattle.replay.proofs.Playing.{call_made, nothing_made, not_well}
 use Rattle.replay.proofs.play.carry_out.Goals as goal
 
-pub returns-in_err-note-in-Call : goal.returns-in_err-note-in-Call
-returns-in_err-note-in-Call g c =
+pub returns-in_err-note-in-Call-clause-went : goal.returns-in_err-note-in-Call-clause-went
+returns-in_err-note-in-Call-clause-went g c =
     let s : State = state_of c.args.rig.now g.W.Store g.R.Store g.K.Store c.args.lent.now in
     let u : State = state_of c.note.new.rig g.W.Store g.R.Store g.K.Store c.note.new.lent in
     let k = c.in_err-note-in-Call.ensures.cases in
     let w = nothing_made s (vec_items c.args.notes.now) (unfold_one s c.args.command) u (vec_items c.note.new.notes) k.0 k.1 in
-    record {
-      went = subst (λ (b : Bool). Went s (vec_items c.args.notes.now) (unfold_one s c.args.command) b u (vec_items c.note.new.notes)) (sym (not_well c.from_residual.result c.from_residual.ensures.0)) w;
-      kept = c.note.ensures.kept;
-    }
+    subst (λ (b : Bool). Went s (vec_items c.args.notes.now) (unfold_one s c.args.command) b u (vec_items c.note.new.notes)) (sym (not_well c.from_residual.result c.from_residual.ensures.0)) w
 
-pub returns-in_ok-note-in-Call : goal.returns-in_ok-note-in-Call
-returns-in_ok-note-in-Call g c =
+pub returns-in_ok-note-in-Call-clause-went : goal.returns-in_ok-note-in-Call-clause-went
+returns-in_ok-note-in-Call-clause-went g c =
     let s : State = state_of c.args.rig.now g.W.Store g.R.Store g.K.Store c.args.lent.now in
     let u : State = state_of c.note.new.rig g.W.Store g.R.Store g.K.Store c.note.new.lent in
     let k = c.in_ok-note-in-Call.ensures.cases in
     let w = call_made s (vec_items c.args.notes.now) c.in-Call.call true u (vec_items c.note.new.notes) k.1 k.2 in
-    record {
-      went = subst (λ (x : Command). Went s (vec_items c.args.notes.now) (unfold_one s x) true u (vec_items c.note.new.notes)) (sym c.in-Call.is) w;
-      kept = c.note.ensures.kept;
-    }
+    subst (λ (x : Command). Went s (vec_items c.args.notes.now) (unfold_one s x) true u (vec_items c.note.new.notes)) (sym c.in-Call.is) w

@@ -39,12 +39,8 @@ loop-command-preserved g c =
       kept_on g.W.Store g.R.Store g.K.Store _ _ _ i.2 c.carry_out.ensures.kept,
     )
 
-pub returns : goal.returns
-returns g c =
+pub returns-clause-went : goal.returns-clause-went
+returns-clause-went g c =
     let s : State = state_of c.args.rig.now g.W.Store g.R.Store g.K.Store c.args.lent.now in
     let t : State = state_of c.loop-command.rig g.W.Store g.R.Store g.K.Store c.loop-command.lent in
-    let i = c.loop-command.invariant in
-    record {
-      went = all_played s (vec_items c.args.notes.now) c.args.commands.now c.loop-command.command-index t (vec_items c.loop-command.notes) i.0 c.loop-command-test.false;
-      kept = i.2;
-    }
+    all_played s (vec_items c.args.notes.now) c.args.commands.now c.loop-command.command-index t (vec_items c.loop-command.notes) c.loop-command.invariant.0 c.loop-command-test.false

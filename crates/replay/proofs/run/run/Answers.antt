@@ -15,8 +15,8 @@ play-requires g c =
     let b = c.in_ok-rig.ensures.begins in
     record { ready = first_ready c.args.draft l c.in_ok-rig.rig c.begin.new.table b.1 b.2 b.0 c.in_ok-rig.ensures.fits }
 
-pub returns : goal.returns
-returns g c =
+pub returns-clause-outcome : goal.returns-clause-outcome
+returns-clause-outcome g c =
     let l : Held = held g.W.Store g.R.Store g.K.Store c.args.lent.now in
     let m : Held = held g.W.Store g.R.Store g.K.Store c.play.new.lent in
     let d = c.args.draft in
@@ -30,12 +30,8 @@ returns g c =
     let session : Session = record { notes = c.play.new.notes; finished = c.finish-finished.result; text = c.in_ok-text.text } in
     let h : Holds u m = record { wire = refl; resend = refl; keepalive = refl; table = refl } in
     let w = from_first s z (vec_items c.new-notes.result) xs true u (vec_items c.play.new.notes) (begun_state d l rig t b.1 b.2) c.new-notes.ensures.items c.in_ok-play.ensures.went in
-    let text : vec_items session.text ≡ session_text (vec_items session.notes) session.finished.tick session.finished.packets = search rules in
-    record {
-      outcome = (
-        b.0,
-        played s xs u session m (first_begun d l rig t b.1 b.2 b.0 c.in_ok-rig.ensures.fits) w
-            (ap (λ (x : Finished). x.tick) c.finish-finished.ensures) (ap (λ (x : Finished). x.packets) c.finish-finished.ensures) text h,
-      );
-      kept = search rules;
-    }
+    let text : vec_items session.text ≡ session_text (vec_items session.notes) session.finished.tick session.finished.packets = search rules in (
+      b.0,
+      played s xs u session m (first_begun d l rig t b.1 b.2 b.0 c.in_ok-rig.ensures.fits) w
+          (ap (λ (x : Finished). x.tick) c.finish-finished.ensures) (ap (λ (x : Finished). x.packets) c.finish-finished.ensures) text h,
+    )

@@ -53,13 +53,9 @@ loop-rig-preserved g c =
       kept_on g.W.Store g.R.Store g.K.Store _ _ _ i.2 c.step_once.ensures.kept,
     )
 
-pub returns : goal.returns
-returns g c =
+pub returns-clause-went : goal.returns-clause-went
+returns-clause-went g c =
     let s : State = state_of c.args.rig.now g.W.Store g.R.Store g.K.Store c.args.lent.now in
     let t : State = state_of c.loop-rig.rig g.W.Store g.R.Store g.K.Store c.loop-rig.lent in
-    let i = c.loop-rig.invariant in
     let off : goes_on t c.args.tick ≡ false = sym c.goes_on.ensures ∙ c.loop-rig-test.false in
-    record {
-      went = ended s (vec_items c.args.notes.now) c.args.tick t (vec_items c.loop-rig.notes) i.0 off;
-      kept = i.2;
-    }
+    ended s (vec_items c.args.notes.now) c.args.tick t (vec_items c.loop-rig.notes) c.loop-rig.invariant.0 off
