@@ -1,0 +1,36 @@
+use Rattle.timer.specs.Rules.{start_rule}
+use Rattle.timer_rows.proofs.Parts.{unused_after}
+use Rattle.timer_rows.specs.Kept.{Kept}
+use Rattle.timer_order.proofs.Lending.{part_kept, part_held, lent_answer, lent_after, whole_of}
+use Rattle.timer_order.proofs.store.RowStoreStore.start.Goals as goal
+
+pub start-requires : goal.start-requires
+start-requires g c =
+    let s = c.args.self.now in
+    record {
+      kept = part_kept s.rows.now c.used-n.result c.used-n.ensures.value s.ledger s.kept;
+      held = part_held s.rows.now c.used-n.result c.used-n.ensures.value g.O.Order.Holds g.met.O.Order.once s.order s.ledger s.held;
+    }
+
+pub invariant_of-self : goal.invariant_of-self
+invariant_of-self g c =
+    let s = c.args.self.now in
+    let ys = c.start.new.rows in
+    record {
+      kept = ∣ whole_of s.rows.now c.used-n.result c.used-n.ensures.value ys c.start.auto.rows (λ z. Kept z c.start.new.ledger) c.start.ensures.kept ∣₁;
+      held = ∣ whole_of s.rows.now c.used-n.result c.used-n.ensures.value ys c.start.auto.rows (λ z. g.O.Order.Holds c.start.new.order z c.start.new.ledger) c.start.ensures.held ∣₁;
+    }
+
+pub returns-clause-answer : goal.returns-clause-answer
+returns-clause-answer g c =
+    let s = c.args.self.now in
+    lent_answer s.rows.now c.used-n.result c.used-n.ensures.value (λ m. start_rule m c.args.deadline c.args.owner c.args.payload) s.ledger c.start.result c.start.ensures.answer
+
+pub returns-clause-after : goal.returns-clause-after
+returns-clause-after g c =
+    let s = c.args.self.now in
+    lent_after s.rows.now c.used-n.result c.used-n.ensures.value c.start.new.rows c.start.auto.rows (λ m. start_rule m c.args.deadline c.args.owner c.args.payload) s.ledger c.start.new.ledger c.start.ensures.after
+
+pub returns-clause-beyond : goal.returns-clause-beyond
+returns-clause-beyond g c =
+    unused_after c.args.self.now.rows.now c.used-n.result c.used-n.ensures.value c.start.new.rows c.start.auto.rows
