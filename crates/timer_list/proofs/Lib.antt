@@ -1,4 +1,2 @@
 pub mod Spots
 pub mod Lists
-pub mod Lending
-pub mod Fresh

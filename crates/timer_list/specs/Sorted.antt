@@ -1,16 +1,14 @@
 -- A doubly linked list of the rows that hold an entry, by deadline and then by ticket.
-use Rattle.std.specs.Prelude.{◌≡◌, ℕ, ◌+◌, ◌*◌, ◌<◌, ◌≤◌, cond, List, [], ◌∷◌, length, ◌==◌, slice_index, slice_index_or}
+use Rattle.std.specs.Prelude.{◌≡◌, ℕ, ◌+◌, ◌*◌, ◌<◌, ◌≤◌, if◌then◌else◌, List, [], ◌∷◌, length, ◌==◌, slice_index, slice_index_or, sum_by}
 use Rattle.timer.specs.Meaning.{Entry}
 use Rattle.timer_rows.specs.declared.row.Row.{Row}
 use Rattle.timer_rows.specs.declared.ends.Ends.{Ends}
-use Rattle.timer_rows.specs.Kept.{Kept}
 use Rattle.timer_rows.specs.Links.{backs, homes_by, keys_by, Slots}
 use Rattle.timer_rows.specs.Rows.{deadlines}
-use Rattle.timer_list.specs.declared.state.State.{State}
 
 -- there is one slot, 0: a row that holds an entry is in it, and a vacant one in none
 abbrev pub home : {P : Type 0} → Entry P → ℕ
-home e = cond (e.ticket == 0) 1 0
+home e = if e.ticket == 0 then 1 else 0
 
 -- what the list is sorted by: the deadline and then the ticket, which is below 2 to the power of 32
 abbrev pub key : {P : Type 0} → Entry P → ℕ
@@ -24,16 +22,11 @@ abbrev pub keys : {P : Type 0} → List (Row P) → List ℕ
 keys rows = keys_by key rows
 
 -- a number above all keys
-abbrev pub top : State → ℕ
-top s = (s.ledger.last + 1) * 4294967296
+abbrev pub top : {P : Type 0} → List (Row P) → ℕ
+top rows = sum_by (λ k. k) (keys rows) + 1
 
 abbrev pub Sorted : {P : Type 0} → List (Row P) → List Ends → Type 0
 Sorted rows es = Slots home (0 ∷ []) key rows es 1
-
--- what the list keeps true
-pub record Held {P : Type 0} (rows : List (Row P)) (s : State) : Type 0 where
-  pub kept : Kept rows s.ledger
-  pub sorted : Sorted rows s.ends
 
 -- the node before which an entry with the deadline d goes: what comes before is due no later, and the node itself is
 pub record Spot {P : Type 0} (rows : List (Row P)) (es : List Ends) (d q : ℕ) : Type 0 where

@@ -1,17 +1,87 @@
-ghost use Rattle.timer_list.specs.Sorted.{Sorted};
-ghost use Rattle.timer_rows.specs.Kept.{Kept};
-ghost use Rattle.timer_rows.specs.Rows.{used};
+ghost use Rattle.std.specs.Prelude.{◌≡◌};
+ghost use Rattle.timer_rows.proofs.Props.{linked_prop};
+ghost use Rattle.timer_list.specs.Sorted.{Sorted, Spot};
 
-use crate::state::State;
+use timer_order::order::Order;
+use timer_order::row_store::RowStore;
+use timer_rows::ends::Ends;
+use timer_rows::entries::{enter, leave};
+use timer_rows::ledger::Ledger;
+use timer_rows::links::{link, unlink};
 use timer_rows::row::Row;
+use timer_rows::rows::vacant;
 
 /// A timer store that keeps its entries in a doubly linked list by deadline, then ticket, over rows that are lent to it.
-#[derive(Drop)]
-pub struct SortedList<'a, P> {
-    /// The rows, of which the first 4,096 are used.
-    pub(crate) rows: &'a mut [Row<P>],
-    /// All the rest.
-    pub(crate) at: State,
-    ghost kept: { ∥ Kept (used rows.now) at.ledger ∥₁ },
-    ghost sorted: { ∥ Sorted (used rows.now) at.ends ∥₁ },
+pub type SortedList<'a, P> = RowStore<'a, P, ListOrder>;
+
+/// The order of a doubly linked list by deadline, then ticket.
+#[derive(Clone, Copy, Drop)]
+pub struct ListOrder {
+    /// The list's sentinel.
+    pub(crate) ends: [Ends; 1],
+}
+
+impl ListOrder {
+    // The node before which an entry with the deadline goes, sought from the front.
+    fn spot<P: Copy>(&self, rows: &[Row<P>], deadline: u32) -> u16
+        requires { Sorted rows.now self.now.ends }
+        ensures { Spot rows.now self.now.ends deadline result }
+    {
+        let mut node = self.ends[0].head;
+        while (node as usize) < rows.len() {
+            let row = rows[node as usize];
+            if row.is_after(deadline) {
+                return node;
+            }
+            node = row.next;
+        }
+        node
+    }
+}
+
+impl<P: Copy> Order<P> for ListOrder {
+    ghost Holds = { λ s rows _. Sorted rows s.ends };
+
+    ghost LAST = { 4294967295 };
+
+    const LAST: u32 = u32::MAX;
+
+    fn empty(count: usize) -> Self {
+        let sentinel = count as u16;
+        ListOrder {
+            ends: [Ends {
+                head: sentinel,
+                tail: sentinel,
+            }],
+        }
+    }
+
+    fn insert(
+        &mut self,
+        rows: &mut [Row<P>],
+        ledger: &mut Ledger,
+        deadline: u32,
+        owner: u8,
+        payload: P,
+    ) -> u32 {
+        let node = self.spot(rows, deadline);
+        let x = vacant(rows, ledger);
+        let ticket = enter(rows, ledger, x, deadline, owner, payload);
+        link(rows, &mut self.ends, x as u16, node);
+        ticket
+    }
+
+    fn remove(&mut self, rows: &mut [Row<P>], ledger: &mut Ledger, x: usize) {
+        unlink(rows, &mut self.ends, x as u16);
+        leave(rows, ledger, x);
+    }
+
+    fn first_due(&self, rows: &[Row<P>], ledger: &Ledger) -> Option<usize> {
+        let x = usize::from(self.ends[0].head);
+        rows.get(x)?.is_due(ledger.now).then_some(x)
+    }
+
+    fn turn(&mut self, _rows: &mut [Row<P>], _ledger: &Ledger) {}
+
+    ghost once = { λ s rows l. linked_prop _ _ _ _ _ _ };
 }

@@ -5,11 +5,11 @@ use Rattle.timer_rows.specs.Rows.{tickets, entries, meant, listed}
 use Rattle.timer_rows.proofs.Same.{same_kept, same_column, same_length, same_meant}
 use Rattle.timer_list.proofs.Spots.{live_home}
 use Rattle.timer_list.proofs.Lists.{node_links, sorted_leave}
-use Rattle.timer_list.proofs.sorted.remove.Goals as goal
+use Rattle.timer_list.proofs.list.ListOrderOrder.remove.Goals as goal
 
 pub unlink-requires : goal.unlink-requires
 unlink-requires g c =
-    let n = node_links c.args.rows.now c.args.at.now c.requires.held c.args.x (live_home c.args.rows.now c.args.x c.requires.live.0 c.requires.live.1) in
+    let n = node_links c.args.rows.now c.args.ledger.now c.args.self.now.ends c.requires.kept c.requires.held c.args.x (live_home c.args.rows.now c.args.x c.requires.live.0 c.requires.live.1) in
     record { node = n.0; after = n.1; before = n.2 }
 
 pub leave-requires : goal.leave-requires
@@ -18,7 +18,7 @@ leave-requires g c =
     let n = same_length c.args.rows.now c.unlink.new.rows same in
     let t = same_column (λ e. e.ticket) c.args.rows.now c.unlink.new.rows same in
     record {
-      kept = same_kept c.args.rows.now c.unlink.new.rows c.args.at.now.ledger same c.requires.held.kept;
+      kept = same_kept c.args.rows.now c.unlink.new.rows c.args.ledger.now same c.requires.kept;
       live = (omega (arith, c.requires.live.0), λ e. c.requires.live.1 (ap (λ ts. get_or ts c.args.x 0) (sym t) ∙ e));
     }
 
@@ -29,13 +29,11 @@ returns g c =
     let same = c.unlink.ensures.contents in
     let t = same_column (λ e. e.ticket) rows mid same in
     record {
-      held = record {
-        kept = c.leave.ensures.kept;
-        sorted = sorted_leave rows c.args.at.now c.requires.held c.args.x mid c.leave.new.rows c.unlink.new.ends c.requires.live.0 c.requires.live.1 same c.unlink.ensures.ons c.unlink.ensures.backs c.leave.ensures.rows;
-      };
+      kept = c.leave.ensures.kept;
+      held = sorted_leave rows c.args.ledger.now c.args.self.now.ends c.requires.kept c.requires.held c.args.x mid c.leave.new.rows c.unlink.new.ends c.requires.live.0 c.requires.live.1 same c.unlink.ensures.ons c.unlink.ensures.backs c.leave.ensures.rows;
       meant =
           c.leave.ensures.meant
-          ∙ ap (λ (m : Meaning g.row.P.Denot). with_pending m (without (get_or (tickets mid) c.args.x 0) (entries mid))) (same_meant rows mid c.args.at.now.ledger same)
-          ∙ ap (λ ts. with_pending (meant rows c.args.at.now.ledger) (without (get_or ts c.args.x 0) (entries mid))) t
-          ∙ ap (λ es. with_pending (meant rows c.args.at.now.ledger) (without (get_or (tickets rows) c.args.x 0) (listed es))) same;
+          ∙ ap (λ (m : Meaning g.row.P.Denot). with_pending m (without (get_or (tickets mid) c.args.x 0) (entries mid))) (same_meant rows mid c.args.ledger.now same)
+          ∙ ap (λ ts. with_pending (meant rows c.args.ledger.now) (without (get_or ts c.args.x 0) (entries mid))) t
+          ∙ ap (λ es. with_pending (meant rows c.args.ledger.now) (without (get_or (tickets rows) c.args.x 0) (listed es))) same;
     }

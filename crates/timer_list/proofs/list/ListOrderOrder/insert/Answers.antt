@@ -4,11 +4,11 @@ use Rattle.timer_rows.specs.Rows.{meant}
 use Rattle.timer_rows.proofs.Moves.{some_row, backs_kept}
 use Rattle.timer_rows.proofs.Same.{same_kept, same_meant}
 use Rattle.timer_list.proofs.Lists.{node_links, sorted_enter}
-use Rattle.timer_list.proofs.sorted.insert.Goals as goal
+use Rattle.timer_list.proofs.list.ListOrderOrder.insert.Goals as goal
 
 pub vacant-x-requires : goal.vacant-x-requires
 vacant-x-requires g c =
-    (open_says (meant c.args.rows.now c.args.at.now.ledger) c.args.deadline c.args.owner c.requires.allowed).room
+    (open_says (meant c.args.rows.now c.args.ledger.now) c.args.deadline c.args.owner c.requires.allowed).room
 
 pub link-requires : goal.link-requires
 link-requires g c =
@@ -17,9 +17,9 @@ link-requires g c =
     let x = c.vacant-x.result in
     let d = some_row rows x c.vacant-x.ensures.0 in
     let is = c.enter-ticket.ensures.rows d in
-    let b = backs_kept rows mid c.args.at.now.ends x _ d c.vacant-x.ensures.0 is refl in
+    let b = backs_kept rows mid c.args.self.now.ends x _ d c.vacant-x.ensures.0 is refl in
     let l = c.enter-ticket.auto.rows in
-    let n = node_links rows c.args.at.now c.requires.held c.spot-node.result c.spot-node.ensures.node in
+    let n = node_links rows c.args.ledger.now c.args.self.now.ends c.requires.kept c.requires.held c.spot-node.result c.spot-node.ensures.node in
     record {
       nodes = (omega (arith, c.vacant-x.ensures.0), omega (arith, n.0));
       before = omega (arith, n.2, ap (λ col. get_or col c.spot-node.result 0) b);
@@ -28,16 +28,14 @@ link-requires g c =
 pub returns : goal.returns
 returns g c =
     let rows = c.args.rows.now in
-    let l = c.args.at.now.ledger in
+    let l = c.args.ledger.now in
     let mid = c.enter-ticket.new.rows in
     let x = c.vacant-x.result in
     let d = some_row rows x c.vacant-x.ensures.0 in
     let o = open_says (meant rows l) c.args.deadline c.args.owner c.requires.allowed in
     record {
       ticket = c.enter-ticket.ensures.ticket;
-      held = record {
-        kept = same_kept mid c.link.new.rows c.enter-ticket.new.ledger c.link.ensures.contents c.enter-ticket.ensures.kept;
-        sorted = sorted_enter rows c.args.at.now c.requires.held x c.spot-node.result c.args.deadline c.args.owner c.args.payload c.vacant-x.ensures.0 c.vacant-x.ensures.1 o c.spot-node.ensures d c.enter-ticket.result mid c.link.new.rows c.link.new.ends c.enter-ticket.ensures.ticket (c.enter-ticket.ensures.rows d) c.link.ensures.contents c.link.ensures.ons c.link.ensures.backs;
-      };
+      kept = same_kept mid c.link.new.rows c.enter-ticket.new.ledger c.link.ensures.contents c.enter-ticket.ensures.kept;
+      held = sorted_enter rows c.args.ledger.now c.args.self.now.ends c.requires.kept c.requires.held x c.spot-node.result c.args.deadline c.args.owner c.args.payload c.vacant-x.ensures.0 c.vacant-x.ensures.1 o c.spot-node.ensures d c.enter-ticket.result mid c.link.new.rows c.link.new.ends c.enter-ticket.ensures.ticket (c.enter-ticket.ensures.rows d) c.link.ensures.contents c.link.ensures.ons c.link.ensures.backs;
       meant = same_meant mid c.link.new.rows c.enter-ticket.new.ledger c.link.ensures.contents ∙ c.enter-ticket.ensures.meant;
     }

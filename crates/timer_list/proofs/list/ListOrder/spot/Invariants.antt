@@ -2,13 +2,13 @@ use Rattle.std.proofs.Common.{◌≡◌, ◌-◌, ◌<◌, ◌≤◌, length, ge
 use Rattle.timer_rows.specs.Links.{backs}
 use Rattle.timer_rows.specs.Rows.{deadlines}
 use Rattle.timer_list.specs.Sorted.{homes, keys, top}
-use Rattle.timer_list.proofs.sorted.spot.Given as goal
+use Rattle.timer_list.proofs.list.ListOrder.spot.Given as goal
 
 abbrev pub invariant-loop-node : goal.invariant-loop-node
 invariant-loop-node g l =
     (get_or (homes l.rows) l.node 1 ≡ 0)
-    × (get_or (backs l.rows l.at.ends) l.node 0 < length l.rows → get_or (deadlines l.rows) (get_or (backs l.rows l.at.ends) l.node 0) 0 ≤ l.deadline)
+    × (get_or (backs l.rows l.self.ends) l.node 0 < length l.rows → get_or (deadlines l.rows) (get_or (backs l.rows l.self.ends) l.node 0) 0 ≤ l.deadline)
 
 -- keys rise along the list, up to a number above all of them at its end
 abbrev pub decreases-loop-node : goal.decreases-loop-node
-decreases-loop-node g l = top l.at - get_or (keys l.rows) l.node (top l.at)
+decreases-loop-node g l = top l.rows - get_or (keys l.rows) l.node (top l.rows)
