@@ -7,13 +7,13 @@ use Rattle.timer.proofs.Checks.{Open}
 use Rattle.timer_rows.specs.declared.row.Row.{Row}
 use Rattle.timer_rows.specs.declared.ledger.Ledger.{Ledger}
 use Rattle.timer_rows.specs.Kept.{Kept}
-use Rattle.timer_rows.specs.Rows.{tickets, deadlines, nexts, prevs, contents, entry_of, entries, listed, filled, vacated, meant, NoneDue}
+use Rattle.timer_rows.specs.Rows.{tickets, deadlines, nexts, prevs, contents, entry_of, entries, listed, filled, vacated, meant, NoneDue, Foremost}
 use Rattle.timer_rows.proofs.Columns.{column_same}
 use Rattle.timer_rows.proofs.Moves.{some_row}
 use Rattle.timer_rows.proofs.Pending.{entries_find, entries_most, length_without, live_row}
 use Rattle.timer_rows.proofs.Same.{same_column, same_length, same_meant}
 use Rattle.timer_heap.specs.Order.{Heap, Loose}
-use Rattle.timer_heap.specs.Positions.{Index, Indexed, Ordered, Unsettled, Sinking, Held, First, key, keys, rank_at}
+use Rattle.timer_heap.specs.Positions.{Index, Indexed, Ordered, Unsettled, Sinking, key, keys, rank_at}
 use Rattle.timer_heap.proofs.Places.{added_cell, enter_index, left_cell, leave_index}
 use Rattle.timer_heap.proofs.Rises.{top_lowest}
 use Rattle.timer_heap.proofs.Sinks.{settles, loose_past, moved_loose, added_loose}
@@ -31,11 +31,11 @@ key_at rows i l =
     let c = get_or-map (λ r. r.ticket) rows i d 0 l in
     omega arith
 
-module _ {P : Type 0} (rows : List (Row P)) (l : Ledger) (h : Held rows l) where
+module _ {P : Type 0} (rows : List (Row P)) (l : Ledger) (k : Kept rows l) (h : Ordered rows l.pending) where
   -- an entry with the next ticket has come into the vacant row x, and to the end of the heap
   module _ (x deadline owner : ℕ) (payload : P) (xl : x < length rows) (v : get_or (tickets rows) x 0 ≡ 0) (o : Open (meant rows l) deadline owner) (d : Row P) (t : ℕ) (mid rows' : List (Row P)) (e : t ≡ l.given + 1) (is : mid ≡ set rows x (filled (get_or rows x d) t deadline owner payload)) where
     pub end_inside : l.pending < length rows
-    end_inside = let m = entries_most rows in let s = h.kept.sized in let n = o.room in omega arith
+    end_inside = let m = entries_most rows in let s = k.sized in let n = o.room in omega arith
 
     pub mid_long : length mid ≡ length rows
     mid_long = ap length is ∙ length-set rows x _
@@ -70,7 +70,7 @@ module _ {P : Type 0} (rows : List (Row P)) (l : Ledger) (h : Held rows l) where
 
       rank_kept : (i : ℕ) → i < l.pending → rank_at rows' i ≡ rank_at rows i
       rank_kept i b =
-          let a = added_cell (tickets rows) (nexts rows) (prevs rows) l.pending h.ordered.index x t v xt kt tn i b in
+          let a = added_cell (tickets rows) (nexts rows) (prevs rows) l.pending h.index x t v xt kt tn i b in
           ap (λ c. get_or (keys rows') (get_or c i 0) 0) now_cells
           ∙ ap (λ r. get_or (keys rows') r 0) (get_or-set_other (nexts rows) l.pending i x 0 (omega arith))
           ∙ ap (λ c. get_or c (get_or (nexts rows) i 0) 0) now_keys
@@ -79,10 +79,10 @@ module _ {P : Type 0} (rows : List (Row P)) (l : Ledger) (h : Held rows l) where
       pub entered_unsettled : Unsettled rows' l.pending (l.pending + 1)
       entered_unsettled =
           record {
-            few = omega (arith, h.kept.few, same_length mid rows' same, mid_long);
+            few = omega (arith, k.few, same_length mid rows' same, mid_long);
             inside = omega arith;
-            index = index_at (l.pending + 1) now_tickets now_cells now_places (enter_index (tickets rows) (nexts rows) (prevs rows) l.pending h.ordered.index x t v xt kt tn);
-            loose = added_loose (rank_at rows) (rank_at rows') l.pending rank_kept h.ordered.heap;
+            index = index_at (l.pending + 1) now_tickets now_cells now_places (enter_index (tickets rows) (nexts rows) (prevs rows) l.pending h.index x t v xt kt tn);
+            loose = added_loose (rank_at rows) (rank_at rows') l.pending rank_kept h.heap;
           }
 
   -- the entry at the end has none below it
@@ -97,13 +97,13 @@ module _ {P : Type 0} (rows : List (Row P)) (l : Ledger) (h : Held rows l) where
       let a = kept.sized in
       let b = ap (λ (m : Meaning P). length m.pending) is in
       let c = length-append (entries rows) (record { ticket = l.given + 1; deadline = deadline; owner = owner; payload = payload } ∷ []) in
-      let s = h.kept.sized in
+      let s = k.sized in
       omega arith
 
   -- the entry of the row x leaves: it has changed places with the last one, and then its row is vacated
   module _ (x : ℕ) (n : get_or (tickets rows) x 0 ≢ 0) where
     pub gap_inside : get_or (prevs rows) x 0 < l.pending
-    gap_inside = h.ordered.index.placed x n
+    gap_inside = h.index.placed x n
 
     module _ (gap last : ℕ) (ge : gap ≡ get_or (prevs rows) x 0) (le : last ≡ l.pending - 1) where
       pub gap_below : gap < l.pending
@@ -120,12 +120,12 @@ module _ {P : Type 0} (rows : List (Row P)) (l : Ledger) (h : Held rows l) where
         d = some_row mid x xl
 
         at_end : get_or (nexts mid) last 0 ≡ x
-        at_end = cell_b rows l.pending h.ordered.index gap last gap_below last_below mid cells places same ∙ ap (λ i. get_or (nexts rows) i 0) ge ∙ h.ordered.index.there x n
+        at_end = cell_b rows l.pending h.index gap last gap_below last_below mid cells places same ∙ ap (λ i. get_or (nexts rows) i 0) ge ∙ h.index.there x n
 
         mid_index : Index (tickets mid) (nexts mid) (prevs mid) (last + 1)
         mid_index =
             subst (λ m. Indexed mid m) (let b = last_below in omega arith)
-            (swapped_index rows l.pending h.ordered.index gap last gap_below last_below mid cells places same)
+            (swapped_index rows l.pending h.index gap last gap_below last_below mid cells places same)
 
         left_nexts : nexts rows' ≡ nexts mid
         left_nexts = ap nexts (is d) ∙ column_same (λ r. r.next) mid x _ d xl refl
@@ -136,7 +136,7 @@ module _ {P : Type 0} (rows : List (Row P)) (l : Ledger) (h : Held rows l) where
             ap (λ c. get_or (keys rows') (get_or c i 0) 0) left_nexts
             ∙ ap (λ c. get_or c (get_or (nexts mid) i 0) 0) (ap keys (is d) ∙ map-set (λ r. key (entry_of r)) mid x _)
             ∙ get_or-set_other (keys mid) x (get_or (nexts mid) i 0) _ 0 a
-            ∙ swapped_other rows l.pending h.ordered.index gap last gap_below last_below mid cells places same i ng (omega arith)
+            ∙ swapped_other rows l.pending h.index gap last gap_below last_below mid cells places same i ng (omega arith)
 
         left_index : Indexed rows' last
         left_index =
@@ -149,12 +149,12 @@ module _ {P : Type 0} (rows : List (Row P)) (l : Ledger) (h : Held rows l) where
         left_loose : Loose (rank_at rows') gap last
         left_loose =
             moved_loose (rank_at rows) (rank_at rows') gap last left_rank
-            (subst (λ m. Heap (rank_at rows) m) (let b = last_below in omega arith) h.ordered.heap)
+            (subst (λ m. Heap (rank_at rows) m) (let b = last_below in omega arith) h.heap)
 
         pub left_unsettled : gap < last → Unsettled rows' gap last
         left_unsettled b =
             record {
-              few = omega (arith, h.kept.few, same_length rows mid same, ap length (is d) ∙ length-set mid x _);
+              few = omega (arith, k.few, same_length rows mid same, ap length (is d) ∙ length-set mid x _);
               inside = b;
               index = left_index;
               loose = left_loose;
@@ -169,8 +169,8 @@ module _ {P : Type 0} (rows : List (Row P)) (l : Ledger) (h : Held rows l) where
         let xl = live_row rows x n in
         let a = kept.sized in
         let b = ap (λ (m : Meaning P). length m.pending) is in
-        let s = h.kept.sized in
-        let f = entries_find rows x (some_row rows x xl) h.kept.apart xl n in
+        let s = k.sized in
+        let f = entries_find rows x (some_row rows x xl) k.apart xl n in
         let c = length_without (get_or (tickets rows) x 0) (entries rows) _ f in
         omega arith
 
@@ -182,51 +182,51 @@ module _ {P : Type 0} (rows : List (Row P)) (l : Ledger) (h : Held rows l) where
         ∙ ap (λ ts. with_pending (meant rows l) (without (get_or ts x 0) (entries mid))) (same_column (λ e. e.ticket) rows mid same)
         ∙ ap (λ es. with_pending (meant rows l) (without (get_or (tickets rows) x 0) (listed es))) same
 
-    pub left_held : (rows' : List (Row P)) (l' : Ledger) → Kept rows' l' → meant rows' l' ≡ with_pending (meant rows l) (without (get_or (tickets rows) x 0) (entries rows)) → (last : ℕ) → last ≡ l.pending - 1 → Ordered rows' last → Held rows' l'
-    left_held rows' l' kept is last e o =
-        record { kept = kept; ordered = subst (λ m. Ordered rows' m) (e ∙ sym (left_count rows' l' kept is)) o }
+    pub left_all : (rows' : List (Row P)) (l' : Ledger) → Kept rows' l' → meant rows' l' ≡ with_pending (meant rows l) (without (get_or (tickets rows) x 0) (entries rows)) → (last : ℕ) → last ≡ l.pending - 1 → Ordered rows' last → Ordered rows' l'.pending
+    left_all rows' l' kept is last e o = subst (λ m. Ordered rows' m) (e ∙ sym (left_count rows' l' kept is)) o
 
   -- where nothing is pending, nothing is due
   pub none_pending : l.pending ≡ 0 → NoneDue l.now rows
-  none_pending z i b n e = omega (arith, h.ordered.index.placed i n)
+  none_pending z i b n e = omega (arith, h.index.placed i n)
 
   -- the row at the top
   module _ (x : ℕ) (some : 0 < l.pending) (is : x ≡ get_or (nexts rows) 0 0) where
     pub top_row : (0 < length rows) × (x < length rows)
-    top_row = let r = reach rows l.pending h.ordered.index 0 some in (r.0, omega (arith, r.1))
+    top_row = let r = reach rows l.pending h.index 0 some in (r.0, omega (arith, r.1))
 
     top_live : get_or (tickets rows) x 0 ≢ 0
-    top_live z = h.ordered.index.live 0 some (ap (λ i. get_or (tickets rows) i 0) (sym is) ∙ z)
+    top_live z = h.index.live 0 some (ap (λ i. get_or (tickets rows) i 0) (sym is) ∙ z)
 
     top_least : (i : ℕ) → get_or (tickets rows) i 0 ≢ 0 → get_or (keys rows) x 0 ≤ get_or (keys rows) i 0
     top_least i n =
-        let p = h.ordered.index.placed i n in
-        let t = top_lowest (rank_at rows) l.pending (get_or (prevs rows) i 0) h.ordered.heap p in
+        let p = h.index.placed i n in
+        let t = top_lowest (rank_at rows) l.pending (get_or (prevs rows) i 0) h.heap p in
         let a = ap (λ r. get_or (keys rows) r 0) is in
-        let b = ap (λ r. get_or (keys rows) r 0) (h.ordered.index.there i n) in
+        let b = ap (λ r. get_or (keys rows) r 0) (h.index.there i n) in
         omega arith
 
     ticket_small : (i : ℕ) → get_or (tickets rows) i 0 < 4294967296
-    ticket_small i = let a = h.kept.issued i in let b = h.kept.numbered in omega arith
+    ticket_small i = let a = k.issued i in let b = k.numbered in omega arith
 
-    pub top_first : (deadline : ℕ) → get_or (deadlines rows) x 0 ≡ deadline → First l.now rows x deadline
-    top_first deadline e =
+    pub top_due : get_or (deadlines rows) x 0 ≡ l.now → Foremost l.now rows x
+    top_due e =
         let kx = key_at rows x top_row.1 in
         record {
-          due = λ z. record {
-            row = top_row.1;
-            live = top_live;
-            due = e ∙ z;
-            least = λ i ne n q.
-                let a = top_least i n in
-                let c = key_at rows i (live_row rows i n) in
-                let f : get_or (tickets rows) x 0 ≢ get_or (tickets rows) i 0 = λ w. ne (sym (h.kept.apart x i top_live w)) in
-                omega arith;
-          };
-          later = λ z i b n q.
+          row = top_row.1;
+          live = top_live;
+          due = e;
+          least = λ i ne n q.
               let a = top_least i n in
-              let c = key_at rows i b in
-              let f = (h.kept.timed x top_live).0 in
-              let g = ticket_small i in
+              let c = key_at rows i (live_row rows i n) in
+              let f : get_or (tickets rows) x 0 ≢ get_or (tickets rows) i 0 = λ w. ne (sym (k.apart x i top_live w)) in
               omega arith;
         }
+
+    pub top_later : get_or (deadlines rows) x 0 ≢ l.now → NoneDue l.now rows
+    top_later ne i b n q =
+        let kx = key_at rows x top_row.1 in
+        let a = top_least i n in
+        let c = key_at rows i b in
+        let f = (k.timed x top_live).0 in
+        let g = ticket_small i in
+        omega arith

@@ -3,6 +3,3 @@ pub mod Sinks
 pub mod Places
 pub mod Swaps
 pub mod Changes
-pub mod Props
-pub mod Lending
-pub mod Fresh

@@ -1,4 +1,3 @@
 pub mod Order
 pub mod Positions
-pub mod Heaps
-pub mod Sounds
+pub mod Once

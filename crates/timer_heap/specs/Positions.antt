@@ -3,10 +3,8 @@
 use Rattle.std.specs.Prelude.{◌≡◌, ℕ, ◌+◌, ◌*◌, ◌<◌, ◌≤◌, ◌≢◌, List, length, slice_index}
 use Rattle.timer.specs.Meaning.{Entry}
 use Rattle.timer_rows.specs.declared.row.Row.{Row}
-use Rattle.timer_rows.specs.declared.ledger.Ledger.{Ledger}
-use Rattle.timer_rows.specs.Kept.{Kept}
 use Rattle.timer_rows.specs.Links.{keys_by}
-use Rattle.timer_rows.specs.Rows.{tickets, nexts, prevs, NoneDue, Foremost}
+use Rattle.timer_rows.specs.Rows.{tickets, nexts, prevs}
 use Rattle.timer_heap.specs.Order.{Heap, Loose, Sunk}
 
 -- the first k positions and the rows that hold an entry are one to one: ts are the tickets of the rows, cs the rows of the positions, ps the positions of the rows
@@ -50,13 +48,3 @@ pub record Sinking {P : Type 0} (rows : List (Row P)) (i k : ℕ) : Type 0 where
   pub inside : i < k
   pub index : Indexed rows k
   pub sunk : Sunk (rank_at rows) i k
-
--- what the store keeps true
-pub record Held {P : Type 0} (rows : List (Row P)) (l : Ledger) : Type 0 where
-  pub kept : Kept rows l
-  pub ordered : Ordered rows l.pending
-
--- the row x, with an entry of the deadline d, comes first: if it is due at n, it is the one to take, and if not, none is due
-pub record First {P : Type 0} (n : ℕ) (rows : List (Row P)) (x d : ℕ) : Type 0 where
-  pub due : d ≡ n → Foremost n rows x
-  pub later : d ≢ n → NoneDue n rows

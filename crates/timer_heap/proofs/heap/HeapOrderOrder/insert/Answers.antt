@@ -1,10 +1,10 @@
-use Rattle.std.proofs.Common.{◌∙◌, arith}
+use Rattle.std.proofs.Common.{◌+◌, ◌∙◌, arith}
 use Rattle.timer.proofs.Checks.{open_says}
 use Rattle.timer_rows.specs.Rows.{meant}
 use Rattle.timer_rows.proofs.Moves.{some_row}
 use Rattle.timer_rows.proofs.Same.{same_kept, same_meant}
 use Rattle.timer_heap.proofs.Changes.{end_inside, entered_unsettled, entered_ordered, entered_count}
-use Rattle.timer_heap.proofs.ordered.insert.Goals as goal
+use Rattle.timer_heap.proofs.heap.HeapOrderOrder.insert.Goals as goal
 
 pub vacant-x-requires : goal.vacant-x-requires
 vacant-x-requires g c =
@@ -18,9 +18,9 @@ put-requires g c =
     let xl = c.vacant-x.ensures.0 in
     let d = some_row rows x xl in
     let o = open_says (meant rows l) c.args.deadline c.args.owner c.requires.allowed in
-    let e = end_inside rows l c.requires.held x c.args.deadline c.args.owner c.args.payload xl c.vacant-x.ensures.1 o d c.enter-ticket.result c.enter-ticket.new.rows c.enter-ticket.new.rows c.enter-ticket.ensures.ticket (c.enter-ticket.ensures.rows d) in
+    let e = end_inside rows l c.requires.kept c.requires.held x c.args.deadline c.args.owner c.args.payload xl c.vacant-x.ensures.1 o d c.enter-ticket.result c.enter-ticket.new.rows c.enter-ticket.new.rows c.enter-ticket.ensures.ticket (c.enter-ticket.ensures.rows d) in
     let n = c.enter-ticket.auto.rows in
-    (omega arith, omega arith, omega (arith, c.requires.held.kept.few))
+    (omega arith, omega arith, omega (arith, c.requires.kept.few))
 
 pub sift_up-requires : goal.sift_up-requires
 sift_up-requires g c =
@@ -30,7 +30,7 @@ sift_up-requires g c =
     let xl = c.vacant-x.ensures.0 in
     let d = some_row rows x xl in
     let o = open_says (meant rows l) c.args.deadline c.args.owner c.requires.allowed in
-    (_, entered_unsettled rows l c.requires.held x c.args.deadline c.args.owner c.args.payload xl c.vacant-x.ensures.1 o d c.enter-ticket.result c.enter-ticket.new.rows c.put.new.rows c.enter-ticket.ensures.ticket (c.enter-ticket.ensures.rows d) c.put.ensures.contents c.put.ensures.cells c.put.ensures.places)
+    (c.args.ledger.now.pending + 1, rw c.from-end.ensures (entered_unsettled rows l c.requires.kept c.requires.held x c.args.deadline c.args.owner c.args.payload xl c.vacant-x.ensures.1 o d c.enter-ticket.result c.enter-ticket.new.rows c.put.new.rows c.enter-ticket.ensures.ticket (c.enter-ticket.ensures.rows d) c.put.ensures.contents (rw c.from-end.ensures at c.put.ensures.cells) (rw c.from-end.ensures at c.put.ensures.places)))
 
 pub returns : goal.returns
 returns g c =
@@ -44,12 +44,11 @@ returns g c =
     let end = c.sift_up.new.rows in
     let l' = c.enter-ticket.new.ledger in
     let same = c.sift_up.ensures.contents ∙ c.put.ensures.contents in
-    let u = entered_unsettled rows l c.requires.held x c.args.deadline c.args.owner c.args.payload xl c.vacant-x.ensures.1 o d c.enter-ticket.result mid c.put.new.rows c.enter-ticket.ensures.ticket (c.enter-ticket.ensures.rows d) c.put.ensures.contents c.put.ensures.cells c.put.ensures.places in
+    let u = entered_unsettled rows l c.requires.kept c.requires.held x c.args.deadline c.args.owner c.args.payload xl c.vacant-x.ensures.1 o d c.enter-ticket.result mid c.put.new.rows c.enter-ticket.ensures.ticket (c.enter-ticket.ensures.rows d) c.put.ensures.contents (rw c.from-end.ensures at c.put.ensures.cells) (rw c.from-end.ensures at c.put.ensures.places) in
+    let v = c.sift_up.ensures.sinking (l.pending + 1) (rw c.from-end.ensures u) in
     record {
       ticket = c.enter-ticket.ensures.ticket;
-      held = record {
-        kept = same_kept mid end l' same c.enter-ticket.ensures.kept;
-        ordered = entered_ordered rows l c.requires.held end l.pending l'.pending (entered_count rows l c.requires.held mid l' c.args.deadline c.args.owner c.args.payload c.enter-ticket.ensures.kept c.enter-ticket.ensures.meant) (c.sift_up.ensures.sinking _ u);
-      };
+      kept = same_kept mid end l' same c.enter-ticket.ensures.kept;
+      held = entered_ordered rows l c.requires.kept c.requires.held end l.pending l'.pending (entered_count rows l c.requires.kept c.requires.held mid l' c.args.deadline c.args.owner c.args.payload c.enter-ticket.ensures.kept c.enter-ticket.ensures.meant) (rw c.from-end.ensures at v);
       meant = same_meant mid end l' same ∙ c.enter-ticket.ensures.meant;
     }

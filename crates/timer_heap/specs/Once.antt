@@ -1,6 +1,5 @@
--- That the rows hold a heap can hold in one way only, so it comes out of a truncation again.
+-- That the rows hold a heap can hold in one way only.
 use Rattle.std.proofs.Common.{◌≡◌, ℕ, ◌<◌, ◌≤◌, ◌≢◌, List, length, get_or}
-use mathlib.Core.Logic.{∥∥₁_elim}
 use denote.Struct.Props.{props}
 use Rattle.timer_rows.specs.declared.row.Row.{Row}
 use Rattle.timer_rows.specs.Rows.{tickets, nexts, prevs}
@@ -28,12 +27,9 @@ index_prop ts cs ps k p q =
 heap_prop : (f : ℕ → ℕ) (n : ℕ) → IsProp (Heap f n)
 heap_prop f n = hlevel props
 
-pub ordered_out : {P : Type 0} (rows : List (Row P)) (k : ℕ) → ∥ Ordered rows k ∥₁ → Ordered rows k
-ordered_out rows k t =
-    ∥∥₁_elim t
-    (λ p q i.
+pub ordered_once : {P : Type 0} (rows : List (Row P)) (k : ℕ) → IsProp (Ordered rows k)
+ordered_once rows k p q i =
     record {
       index = index_prop (tickets rows) (nexts rows) (prevs rows) k p.index q.index i;
       heap = heap_prop (rank_at rows) k p.heap q.heap i;
-    })
-    (λ o. o)
+    }

@@ -1,0 +1,58 @@
+use Rattle.std.proofs.Common.{◌-◌, get_or, sym, ap, ◌∙◌, arith}
+use Rattle.timer_rows.proofs.Same.{same_kept, same_column, same_length, same_meant}
+use Rattle.timer_heap.proofs.Swaps.{reach}
+use Rattle.timer_heap.proofs.Changes.{gap_below, last_below, left_unsettled, left_ordered, left_meant, left_all}
+use Rattle.timer_heap.proofs.heap.HeapOrderOrder.remove.Goals as goal
+
+pub swap-requires : goal.swap-requires
+swap-requires g c =
+    let rows = c.args.rows.now in
+    let l = c.args.ledger.now in
+    let h = c.requires.held in
+    let e = c.position_of-gap.ensures in
+    let a = reach rows l.pending h.index _ (gap_below rows l c.requires.kept h c.args.x c.requires.live.1 _ _ e (ap (λ n. n - 1) c.from-last.ensures)) in
+    let b = reach rows l.pending h.index _ (last_below rows l c.requires.kept h c.args.x c.requires.live.1 _ _ e (ap (λ n. n - 1) c.from-last.ensures)) in
+    record { positions = (a.0, b.0, c.requires.kept.few); rows = (a.1, b.1) }
+
+pub leave-requires : goal.leave-requires
+leave-requires g c =
+    let rows = c.args.rows.now in
+    let mid = c.swap.new.rows in
+    let same = c.swap.ensures.contents in
+    let n = same_length rows mid same in
+    let t = same_column (λ e. e.ticket) rows mid same in
+    record {
+      kept = same_kept rows mid c.args.ledger.now same c.requires.kept;
+      live = (omega (arith, c.requires.live.0), λ e. c.requires.live.1 (ap (λ ts. get_or ts c.args.x 0) (sym t) ∙ e));
+    }
+
+pub settle-requires : goal.settle-requires
+settle-requires g c =
+    let s = c.swap.ensures in
+    left_unsettled c.args.rows.now c.args.ledger.now c.requires.kept c.requires.held c.args.x c.requires.live.1 _ _ c.position_of-gap.ensures (ap (λ n. n - 1) c.from-last.ensures) c.swap.new.rows c.leave.new.rows s.cells s.places s.contents c.leave.ensures.rows c.if-gap-last.true
+
+pub returns-then-gap-last : goal.returns-then-gap-last
+returns-then-gap-last g c =
+    let rows = c.args.rows.now in
+    let l = c.args.ledger.now in
+    let end = c.settle.new.rows in
+    let left = c.leave.new.rows in
+    let l' = c.leave.new.ledger in
+    let same = c.settle.ensures.contents in
+    let m = same_meant left end l' same ∙ left_meant rows l c.requires.kept c.requires.held c.args.x c.requires.live.1 c.swap.new.rows left l' c.swap.ensures.contents c.leave.ensures.meant in
+    record {
+      kept = same_kept left end l' same c.leave.ensures.kept;
+      held = left_all rows l c.requires.kept c.requires.held c.args.x c.requires.live.1 end l' (same_kept left end l' same c.leave.ensures.kept) m _ (ap (λ n. n - 1) c.from-last.ensures) c.settle.ensures.ordered;
+      meant = m;
+    }
+
+pub returns-else-gap-last : goal.returns-else-gap-last
+returns-else-gap-last g c =
+    let rows = c.args.rows.now in
+    let l = c.args.ledger.now in
+    let left = c.leave.new.rows in
+    let l' = c.leave.new.ledger in
+    let s = c.swap.ensures in
+    let m = left_meant rows l c.requires.kept c.requires.held c.args.x c.requires.live.1 c.swap.new.rows left l' s.contents c.leave.ensures.meant in
+    let o = left_ordered rows l c.requires.kept c.requires.held c.args.x c.requires.live.1 _ _ c.position_of-gap.ensures (ap (λ n. n - 1) c.from-last.ensures) c.swap.new.rows left s.cells s.places s.contents c.leave.ensures.rows c.if-gap-last.false in
+    record { kept = c.leave.ensures.kept; held = left_all rows l c.requires.kept c.requires.held c.args.x c.requires.live.1 left l' c.leave.ensures.kept m _ (ap (λ n. n - 1) c.from-last.ensures) o; meant = m }
