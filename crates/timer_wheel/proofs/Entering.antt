@@ -9,17 +9,18 @@ use Rattle.timer_rows.specs.Rows.{tickets, deadlines, contents, filled, vacated,
 use Rattle.timer_rows.proofs.Linking.{first}
 use Rattle.timer_rows.proofs.Moves.{some_row, slots_enter, slots_leave}
 use Rattle.timer_rows.proofs.Pending.{live_row}
-use Rattle.timer_wheel.specs.declared.state.State.{State}
+use Rattle.timer_rows.specs.declared.ledger.Ledger.{Ledger}
+use Rattle.timer_rows.specs.Kept.{Kept}
 use Rattle.timer_wheel.specs.Place.{place_of}
-use Rattle.timer_wheel.specs.Placed.{all_slots, home, key, Slotted, Held}
+use Rattle.timer_wheel.specs.Placed.{all_slots, home, key, Slotted, Placed}
 use Rattle.timer_wheel.specs.Pouring.{Waiting}
 use Rattle.timer_wheel.proofs.Places.{place_below, due_here, here_due}
 use Rattle.timer_wheel.proofs.Homes.{row_home, sentinel_home}
 use Rattle.timer_wheel.proofs.Pours.{at_tick}
 
-module _ {P : Type 0} (rows : List (Row P)) (s : State) (h : Held rows s) where
+module _ {P : Type 0} (rows : List (Row P)) (ledger : Ledger) (es : List Ends) (k : Kept rows ledger) (h : Placed rows ledger es) where
   abbrev now : ℕ
-  now = s.ledger.now
+  now = ledger.now
 
   abbrev homes : List ℕ
   homes = homes_by (home now) all_slots rows
@@ -35,48 +36,34 @@ module _ {P : Type 0} (rows : List (Row P)) (s : State) (h : Held rows s) where
   home_live i l b e = let a = row_home (at_tick now) rows i l in grind (arith, nat_tests)
 
   -- an entry with the next ticket goes before the sentinel of its slot
-  pub placed_enter : (x q t deadline owner : ℕ) (payload : P) (d : Row P) (mid rows' : List (Row P)) (es' : List Ends) → x < length rows → get_or (tickets rows) x 0 ≡ 0 → q ≡ length rows + place_of now deadline → t ≡ s.ledger.given + 1 → mid ≡ set rows x (filled (get_or rows x d) t deadline owner payload) → contents rows' ≡ contents mid → ons rows' es' ≡ set (set (ons mid s.ends) (get_or (backs mid s.ends) q 0) x) x q → backs rows' es' ≡ set (set (backs mid s.ends) q x) x (get_or (backs mid s.ends) q 0) → Slotted now rows' es'
+  pub placed_enter : (x q t deadline owner : ℕ) (payload : P) (d : Row P) (mid rows' : List (Row P)) (es' : List Ends) → x < length rows → get_or (tickets rows) x 0 ≡ 0 → q ≡ length rows + place_of now deadline → t ≡ ledger.given + 1 → mid ≡ set rows x (filled (get_or rows x d) t deadline owner payload) → contents rows' ≡ contents mid → ons rows' es' ≡ set (set (ons mid es) (get_or (backs mid es) q 0) x) x q → backs rows' es' ≡ set (set (backs mid es) q x) x (get_or (backs mid es) q 0) → Slotted now rows' es'
   placed_enter x q t deadline owner payload d mid rows' es' xl v at e is same on back =
       let p = place_below now deadline in
       let free : get_or homes x 256 ≡ 256 = row_home (at_tick now) rows x xl ∙ ap (λ b. cond b 256 (place_of now (get_or (deadlines rows) x 0))) (eq-eqb (get_or (tickets rows) x 0) 0 v) in
       let live : cond (eqb t 0) 256 (place_of now deadline) ≡ place_of now deadline = ap (λ b. cond b 256 (place_of now deadline)) (ne_eqb t 0 (λ z. omega (arith, z, e))) in
-      slots_enter (home now) all_slots key 256 rows mid rows' s.ends es' x q d (filled (get_or rows x d) t deadline owner payload) h.placed.slots xl (omega (arith, free)) refl refl
+      slots_enter (home now) all_slots key 256 rows mid rows' es es' x q d (filled (get_or rows x d) t deadline owner payload) h.slots xl (omega (arith, free)) refl refl
       (ap (λ i. get_or homes i 256) at ∙ sentinel_home (at_tick now) rows (place_of now deadline) p ∙ sym live)
       (omega (arith, live))
-      (λ l. omega (arith, h.kept.issued (get_or (backs rows s.ends) q 0)))
+      (λ l. omega (arith, k.issued (get_or (backs rows es) q 0)))
       (λ l. absurd (omega arith))
       is same on back
 
   -- the row x leaves its slot
-  pub placed_leave : (x : ℕ) (mid rows' : List (Row P)) (es' : List Ends) → x < length rows → get_or (tickets rows) x 0 ≢ 0 → contents mid ≡ contents rows → ons mid es' ≡ set (ons rows s.ends) (get_or (backs rows s.ends) x 0) (get_or (ons rows s.ends) x 0) → backs mid es' ≡ set (backs rows s.ends) (get_or (ons rows s.ends) x 0) (get_or (backs rows s.ends) x 0) → ((d : Row P) → rows' ≡ set mid x (vacated (get_or mid x d))) → Slotted now rows' es'
+  pub placed_leave : (x : ℕ) (mid rows' : List (Row P)) (es' : List Ends) → x < length rows → get_or (tickets rows) x 0 ≢ 0 → contents mid ≡ contents rows → ons mid es' ≡ set (ons rows es) (get_or (backs rows es) x 0) (get_or (ons rows es) x 0) → backs mid es' ≡ set (backs rows es) (get_or (ons rows es) x 0) (get_or (backs rows es) x 0) → ((d : Row P) → rows' ≡ set mid x (vacated (get_or mid x d))) → Slotted now rows' es'
   placed_leave x mid rows' es' l n same on back is =
       let d = some_row rows x l in
-      slots_leave (home now) all_slots key 256 rows mid rows' s.ends es' x d h.placed.slots l (live_slot x l n) same on back (is d) refl
-
-  -- no entry is due: all of them wait
-  pub waiting : NoneDue now rows → Waiting now rows
-  waiting none =
-      record {
-        few = h.kept.few;
-        apart = h.kept.apart;
-        small = λ i. let a = h.kept.issued i in let b = h.kept.numbered in omega arith;
-        later = λ i n.
-            let t = h.kept.timed i n in
-            let ne = none i (live_row rows i n) n in
-            let e = h.placed.last in
-            (omega arith, omega arith);
-      }
+      slots_leave (home now) all_slots key 256 rows mid rows' es es' x d h.slots l (live_slot x l n) same on back (is d) refl
 
   -- the first row of the slot of the entries that are due
   abbrev slot : ℕ
   slot = now % 64
 
-  module _ (x : ℕ) (is : x ≡ get_or (ons rows s.ends) (length rows + slot) 0) where
+  module _ (x : ℕ) (is : x ≡ get_or (ons rows es) (length rows + slot) 0) where
     lowest : (i : ℕ) → get_or (tickets rows) i 0 ≢ 0 → get_or (deadlines rows) i 0 ≡ now → (x < length rows) × (get_or (tickets rows) x 0 ≤ get_or (tickets rows) i 0)
     lowest i n e =
         let l = live_row rows i n in
         let m : get_or homes i 256 ≡ slot = live_home i l n ∙ ap (place_of now) e ∙ here_due now in
-        let f = first (ons rows s.ends) (backs rows s.ends) homes (tickets rows) (length rows) 256 h.placed.slots slot i l m (omega arith) in
+        let f = first (ons rows es) (backs rows es) homes (tickets rows) (length rows) 256 h.slots slot i l m (omega arith) in
         (omega (arith, f.row, is), omega (arith, f.least, ap (λ j. get_or (tickets rows) j 0) is))
 
     pub slot_empty : length rows ≤ x → NoneDue now rows
@@ -85,10 +72,10 @@ module _ {P : Type 0} (rows : List (Row P)) (s : State) (h : Held rows s) where
     pub slot_first : x < length rows → Foremost now rows x
     slot_first l =
         let z : get_or homes (length rows + slot) 256 ≡ slot = sentinel_home (at_tick now) rows slot (omega arith) in
-        let o : get_or homes x 256 ≡ slot = ap (λ j. get_or homes j 256) is ∙ (h.placed.slots.on (length rows + slot) (omega (arith, z))).1 ∙ z in
+        let o : get_or homes x 256 ≡ slot = ap (λ j. get_or homes j 256) is ∙ (h.slots.on (length rows + slot) (omega (arith, z))).1 ∙ z in
         let v = home_live x l (omega (arith, o)) in
-        let t = h.kept.timed x v in
-        let e = h.placed.last in
+        let t = k.timed x v in
+        let e = h.last in
         let due = due_here now (get_or (deadlines rows) x 0) t.0 (omega arith) (sym (live_home x l v) ∙ o) in
         record {
           row = l;
@@ -96,6 +83,16 @@ module _ {P : Type 0} (rows : List (Row P)) (s : State) (h : Held rows s) where
           due = due;
           least = λ i ne n d.
               let a = (lowest i n d).1 in
-              let f : get_or (tickets rows) x 0 ≢ get_or (tickets rows) i 0 = λ q. ne (sym (h.kept.apart x i v q)) in
+              let f : get_or (tickets rows) x 0 ≢ get_or (tickets rows) i 0 = λ q. ne (sym (k.apart x i v q)) in
               omega arith;
         }
+
+-- as the tick ends, all entries wait
+pub waiting : {P : Type 0} (rows : List (Row P)) (l : Ledger) (tick : ℕ) → Kept rows l → tick < l.now → l.last ≤ 16777215 → Waiting tick rows
+waiting rows l tick k before last =
+    record {
+      few = k.few;
+      apart = k.apart;
+      small = λ i. let a = k.issued i in let b = k.numbered in omega arith;
+      later = λ i n. let t = k.timed i n in (omega arith, omega arith);
+    }

@@ -1,5 +1,4 @@
 pub mod Place
 pub mod Placed
 pub mod Pouring
-pub mod Wheels
-pub mod Sounds
+pub mod Once

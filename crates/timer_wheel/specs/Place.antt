@@ -1,6 +1,6 @@
 -- Where an entry lies on a wheel of four levels of 64 slots.
 -- A tick is a number of four digits in base 64, digit 0 the lowest.
-use Rattle.std.specs.Prelude.{◌≡◌, ℕ, ◌+◌, ◌*◌, ◌/◌, ◌%◌, ◌^◌, Bool, cond, ◌==◌}
+use Rattle.std.specs.Prelude.{◌≡◌, ℕ, ◌+◌, ◌*◌, ◌/◌, ◌%◌, ◌^◌, Bool, if◌then◌else◌, ◌==◌}
 
 abbrev pub digit : ℕ → ℕ → ℕ
 digit j t = t / 64 ^ j % 64
@@ -13,7 +13,7 @@ alike j a b = a / 64 ^ j == b / 64 ^ j
 -- the deadline 100, in digits 1 36, lies on level 1 at tick 0, and on level 0 at tick 64, in digits 1 0;
 -- the deadline 64 lies on level 1 at tick 63, and the deadline 4096 on level 2 at tick 4095
 abbrev pub level : ℕ → ℕ → ℕ
-level tick deadline = cond (alike 1 tick deadline) 0 (cond (alike 2 tick deadline) 1 (cond (alike 3 tick deadline) 2 3))
+level tick deadline = if alike 1 tick deadline then 0 else (if alike 2 tick deadline then 1 else (if alike 3 tick deadline then 2 else 3))
 
 -- and in the slot of that digit of its deadline: of these in slots 1, 36, 1 and 1
 abbrev pub slot : ℕ → ℕ → ℕ
@@ -25,7 +25,7 @@ place tick deadline = 64 * level tick deadline + slot tick deadline
 
 -- the highest level k such that the digits 0 to k - 1 of t are zero
 abbrev pub lift : ℕ → ℕ
-lift t = cond (t % 64 == 0) (cond (t % 4096 == 0) (cond (t % 262144 == 0) 3 2) 1) 0
+lift t = if t % 64 == 0 then (if t % 4096 == 0 then (if t % 262144 == 0 then 3 else 2) else 1) else 0
 
 -- the slot of t's own digit on that level, which is emptied as the tick becomes t: all slots of the lower levels are empty then
 abbrev pub source : ℕ → ℕ

@@ -1,5 +1,5 @@
 -- The wheel while a slot is emptied.
-use Rattle.std.specs.Prelude.{◌≡◌, ℕ, ◌+◌, ◌<◌, ◌≤◌, cond, ◌≢◌, List, length, ◌==◌, nat_lt, slice_index}
+use Rattle.std.specs.Prelude.{◌≡◌, ℕ, ◌+◌, ◌<◌, ◌≤◌, if◌then◌else◌, ◌≢◌, List, length, ◌==◌, nat_lt, slice_index}
 use Rattle.timer.specs.Meaning.{Entry}
 use Rattle.timer_rows.specs.declared.row.Row.{Row}
 use Rattle.timer_rows.specs.declared.ends.Ends.{Ends}
@@ -18,7 +18,7 @@ pub record Waiting {P : Type 0} (tick : ℕ) (rows : List (Row P)) : Type 0 wher
 -- entries with tickets below k lie where the next tick says, and the others still where the tick said
 abbrev pub home_midway : {P : Type 0} → ℕ → ℕ → Entry P → ℕ
 home_midway tick k e =
-    cond (e.ticket == 0) 256 (cond (nat_lt e.ticket k) (place_of (tick + 1) e.deadline) (place_of tick e.deadline))
+    if e.ticket == 0 then 256 else (if nat_lt e.ticket k then place_of (tick + 1) e.deadline else place_of tick e.deadline)
 
 abbrev pub Midway : {P : Type 0} → ℕ → ℕ → List (Row P) → List Ends → Type 0
 Midway tick k rows es = Slots (home_midway tick k) all_slots key rows es 256

@@ -1,17 +1,71 @@
-ghost use Rattle.timer_rows.specs.Kept.{Kept};
-ghost use Rattle.timer_rows.specs.Rows.{used};
+ghost use Rattle.timer_wheel.specs.Once.{placed_once};
 ghost use Rattle.timer_wheel.specs.Placed.{Placed};
 
-use crate::state::State;
+use crate::cascade::cascade;
+use crate::links::{append, front};
+use crate::place::place;
+use timer_order::order::Order;
+use timer_order::row_store::RowStore;
+use timer_rows::ends::Ends;
+use timer_rows::entries::{enter, leave};
+use timer_rows::ledger::Ledger;
+use timer_rows::links::{unlink, unlink_all};
 use timer_rows::row::Row;
+use timer_rows::rows::vacant;
 
 /// A timer store that keeps its entries in a hierarchical timing wheel of four levels of 64 slots, over rows that are lent to it.
-#[derive(Drop)]
-pub struct Wheel<'a, P> {
-    /// The rows, of which the first 4,096 are used.
-    pub(crate) rows: &'a mut [Row<P>],
-    /// All the rest.
-    pub(crate) at: State,
-    ghost kept: { ∥ Kept (used rows.now) at.ledger ∥₁ },
-    ghost slots: { ∥ Placed (used rows.now) at ∥₁ },
+pub type Wheel<'a, P> = RowStore<'a, P, WheelOrder>;
+
+/// The order of a timing wheel: each entry in the slot of its place, and the entries of a slot by their tickets.
+#[derive(Clone, Copy, Drop)]
+pub struct WheelOrder {
+    /// The sentinel of each slot, level by level.
+    pub(crate) ends: [Ends; 256],
+}
+
+impl<P: Copy> Order<P> for WheelOrder {
+    ghost Holds = { λ s rows l. Placed rows l s.ends };
+
+    ghost LAST = { 16777215 };
+
+    // four digits of 63
+    const LAST: u32 = 16_777_215;
+
+    fn empty(count: usize) -> Self {
+        let mut ends = [Ends { head: 0, tail: 0 }; 256];
+        unlink_all(&mut ends, count);
+        WheelOrder { ends }
+    }
+
+    fn insert(
+        &mut self,
+        rows: &mut [Row<P>],
+        ledger: &mut Ledger,
+        deadline: u32,
+        owner: u8,
+        payload: P,
+    ) -> u32 {
+        let slot = place(ledger.now, deadline);
+        let x = vacant(rows, ledger);
+        let ticket = enter(rows, ledger, x, deadline, owner, payload);
+        append(rows, &mut self.ends, x as u16, slot);
+        ticket
+    }
+
+    fn remove(&mut self, rows: &mut [Row<P>], ledger: &mut Ledger, x: usize) {
+        unlink(rows, &mut self.ends, x as u16);
+        leave(rows, ledger, x);
+    }
+
+    // The first row of the slot of the tick's lowest digit on level 0.
+    fn first_due(&self, rows: &[Row<P>], ledger: &Ledger) -> Option<usize> {
+        let x = usize::from(front(rows, &self.ends, (ledger.now % 64) as u8));
+        (x < rows.len()).then_some(x)
+    }
+
+    fn turn(&mut self, rows: &mut [Row<P>], ledger: &Ledger) {
+        cascade(rows, &mut self.ends, ledger.now - 1);
+    }
+
+    ghost once = { λ s rows l. placed_once rows l s.ends };
 }

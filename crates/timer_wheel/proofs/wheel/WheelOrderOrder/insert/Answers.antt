@@ -10,31 +10,31 @@ use Rattle.timer_wheel.proofs.Places.{place_is, place_below}
 use Rattle.timer_wheel.proofs.Homes.{all_ends, sentinel_home, node_links}
 use Rattle.timer_wheel.proofs.Pours.{at_tick}
 use Rattle.timer_wheel.proofs.Entering.{placed_enter}
-use Rattle.timer_wheel.proofs.slots.insert.Goals as goal
+use Rattle.timer_wheel.proofs.wheel.WheelOrderOrder.insert.Goals as goal
 
 pub vacant-x-requires : goal.vacant-x-requires
 vacant-x-requires g c =
-    (open_says (meant c.args.rows.now c.args.at.now.ledger) c.args.deadline c.args.owner c.requires.allowed).room
+    (open_says (meant c.args.rows.now c.args.ledger.now) c.args.deadline c.args.owner c.requires.allowed).room
 
 pub append-requires : goal.append-requires
 append-requires g c =
     let rows = c.args.rows.now in
     let mid = c.enter-ticket.new.rows in
     let x = c.vacant-x.result in
-    let es = c.args.at.now.ends in
-    let tick = c.args.at.now.ledger.now in
-    let p : c.place-slot.result ≡ place_of c.args.at.now.ledger.now c.args.deadline = c.place-slot.ensures.value ∙ place_is tick c.args.deadline in
+    let es = c.args.self.now.ends in
+    let tick = c.args.ledger.now.now in
+    let p : c.place-slot.result ≡ place_of c.args.ledger.now.now c.args.deadline = c.place-slot.ensures.value ∙ place_is tick c.args.deadline in
     let d = some_row rows x c.vacant-x.ensures.0 in
     let is = c.enter-ticket.ensures.rows d in
     let b = backs_kept rows mid es x _ d c.vacant-x.ensures.0 is refl in
     let l = c.enter-ticket.auto.rows in
     let f = place_below tick c.args.deadline in
-    let q : length c.enter-ticket.new.rows + c.place-slot.result ≡ length c.args.rows.now + place_of c.args.at.now.ledger.now c.args.deadline = omega (arith, p, l) in
+    let q : length c.enter-ticket.new.rows + c.place-slot.result ≡ length c.args.rows.now + place_of c.args.ledger.now.now c.args.deadline = omega (arith, p, l) in
     let z = ap (λ i. get_or (homes_by (home tick) all_slots rows) i 256) q ∙ sentinel_home (at_tick tick) rows (place_of tick c.args.deadline) f in
-    let n = node_links rows es _ _ c.requires.held.placed.slots (length c.enter-ticket.new.rows + c.place-slot.result) (omega (arith, z)) in
-    let e = all_ends rows es _ _ c.requires.held.placed.slots in
+    let n = node_links rows es _ _ c.requires.held.slots (length c.enter-ticket.new.rows + c.place-slot.result) (omega (arith, z)) in
+    let e = all_ends rows es _ _ c.requires.held.slots in
     record {
-      few = (omega (arith, l, c.requires.held.kept.few), e);
+      few = (omega (arith, l, c.requires.kept.few), e);
       row = omega (arith, l, c.vacant-x.ensures.0);
       last = omega (arith, l, e, n.2, ap (λ col. get_or col (length c.enter-ticket.new.rows + c.place-slot.result) 0) b);
     }
@@ -44,19 +44,17 @@ returns g c =
     let rows = c.args.rows.now in
     let mid = c.enter-ticket.new.rows in
     let x = c.vacant-x.result in
-    let p : c.place-slot.result ≡ place_of c.args.at.now.ledger.now c.args.deadline = c.place-slot.ensures.value ∙ place_is c.args.at.now.ledger.now c.args.deadline in
-    let q : length c.enter-ticket.new.rows + c.place-slot.result ≡ length c.args.rows.now + place_of c.args.at.now.ledger.now c.args.deadline = omega (arith, p, c.enter-ticket.auto.rows) in
+    let p : c.place-slot.result ≡ place_of c.args.ledger.now.now c.args.deadline = c.place-slot.ensures.value ∙ place_is c.args.ledger.now.now c.args.deadline in
+    let q : length c.enter-ticket.new.rows + c.place-slot.result ≡ length c.args.rows.now + place_of c.args.ledger.now.now c.args.deadline = omega (arith, p, c.enter-ticket.auto.rows) in
     let d = some_row rows x c.vacant-x.ensures.0 in
     let m = c.enter-ticket.ensures.meant in
-    let s = placed_enter rows c.args.at.now c.requires.held x _ c.enter-ticket.result c.args.deadline c.args.owner c.args.payload d mid c.append.new.rows c.append.new.ends c.vacant-x.ensures.0 c.vacant-x.ensures.1 q c.enter-ticket.ensures.ticket (c.enter-ticket.ensures.rows d) c.append.ensures.contents c.append.ensures.ons c.append.ensures.backs in
+    let s = placed_enter rows c.args.ledger.now c.args.self.now.ends c.requires.kept c.requires.held x _ c.enter-ticket.result c.args.deadline c.args.owner c.args.payload d mid c.append.new.rows c.append.new.ends c.vacant-x.ensures.0 c.vacant-x.ensures.1 q c.enter-ticket.ensures.ticket (c.enter-ticket.ensures.rows d) c.append.ensures.contents c.append.ensures.ons c.append.ensures.backs in
     record {
       ticket = c.enter-ticket.ensures.ticket;
+      kept = same_kept mid c.append.new.rows c.enter-ticket.new.ledger c.append.ensures.contents c.enter-ticket.ensures.kept;
       held = record {
-        kept = same_kept mid c.append.new.rows c.enter-ticket.new.ledger c.append.ensures.contents c.enter-ticket.ensures.kept;
-        placed = record {
-          slots = subst (λ t. Slotted t c.append.new.rows c.append.new.ends) (sym (ap (λ m. m.now) m)) s;
-          last = ap (λ m. m.last) m ∙ c.requires.held.placed.last;
-        };
+        slots = subst (λ t. Slotted t c.append.new.rows c.append.new.ends) (sym (ap (λ m. m.now) m)) s;
+        last = omega (arith, ap (λ m. m.last) m, c.requires.held.last);
       };
       meant = same_meant mid c.append.new.rows c.enter-ticket.new.ledger c.append.ensures.contents ∙ m;
     }

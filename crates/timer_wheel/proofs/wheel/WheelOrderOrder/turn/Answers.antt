@@ -1,0 +1,31 @@
+use Rattle.std.proofs.Common.{◌≡◌, ◌+◌, ◌-◌, ap, subst, arith}
+use Rattle.timer_wheel.specs.Placed.{Slotted}
+use Rattle.timer_wheel.proofs.Entering.{waiting}
+use Rattle.timer_wheel.proofs.wheel.WheelOrderOrder.turn.Goals as goal
+
+pub cascade-requires : goal.cascade-requires
+cascade-requires g c =
+    let k = c.requires.kept in
+    let b = c.requires.before in
+    let n = ap (λ l. l.now) b.1 in
+    let m = ap (λ l. l.last) b.1 in
+    let e : b.0.now ≡ c.args.ledger.now.now - 1 = omega arith in
+    record {
+      waiting = waiting c.args.rows.now c.args.ledger.now _ k (omega arith) (omega (arith, b.2.last));
+      slots = subst (λ t. Slotted t c.args.rows.now c.args.self.now.ends) e b.2.slots;
+      before = omega (arith, k.clock, b.2.last);
+    }
+
+pub returns : goal.returns
+returns g c =
+    let b = c.requires.before in
+    let n = ap (λ l. l.now) b.1 in
+    let m = ap (λ l. l.last) b.1 in
+    let e : c.args.ledger.now.now - 1 + 1 ≡ c.args.ledger.now.now = omega arith in
+    record {
+      held = record {
+        slots = subst (λ t. Slotted t c.cascade.new.rows c.cascade.new.ends) e c.cascade.ensures.slots;
+        last = omega (arith, b.2.last);
+      };
+      contents = c.cascade.ensures.contents;
+    }
