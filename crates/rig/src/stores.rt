@@ -3,11 +3,13 @@ use journal::note::Note;
 use journal::record::tell;
 use std::alloc::{AllocError, Global};
 use timer::store::Store;
-use timer_heap::heap::TimerHeap;
-use timer_list::list::SortedList;
+use timer_heap::heap::HeapOrder;
+use timer_list::list::ListOrder;
+use timer_order::order::Order;
+use timer_order::row_store::RowStore;
 use timer_quota::quota::Quota;
 use timer_rows::row::Row;
-use timer_wheel::wheel::Wheel;
+use timer_wheel::wheel::WheelOrder;
 
 /// How the task meets a store.
 #[derive(Clone, Copy)]
@@ -22,22 +24,23 @@ pub enum Layers {
 
 /// The task's journal over a sorted list.
 pub fn list(layers: Layers, heap: Global) -> Result<Vec<Note>, AllocError> {
-    let mut rows = [Row::vacant(0); 8];
-    let mut store = SortedList::new(&mut rows, 0, task::LAST);
-    told(&mut store, layers, heap)
+    over::<ListOrder>(layers, heap)
 }
 
 /// The task's journal over a heap.
 pub fn heap(layers: Layers, heap: Global) -> Result<Vec<Note>, AllocError> {
-    let mut rows = [Row::vacant(0); 8];
-    let mut store = TimerHeap::new(&mut rows, 0, task::LAST);
-    told(&mut store, layers, heap)
+    over::<HeapOrder>(layers, heap)
 }
 
 /// The task's journal over a wheel.
 pub fn wheel(layers: Layers, heap: Global) -> Result<Vec<Note>, AllocError> {
+    over::<WheelOrder>(layers, heap)
+}
+
+/// The task's journal over a store in an order.
+pub fn over<O: Order<u32>>(layers: Layers, heap: Global) -> Result<Vec<Note>, AllocError> {
     let mut rows = [Row::vacant(0); 8];
-    let mut store = Wheel::new(&mut rows);
+    let mut store = RowStore::<u32, O>::new(&mut rows, 0, task::LAST);
     told(&mut store, layers, heap)
 }
 

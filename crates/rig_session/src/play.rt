@@ -22,7 +22,7 @@ const RESEND_ROWS: usize = 256;
 
 const KEEPALIVE_ROWS: usize = 64;
 
-// The last tick of a wheel.
+// The last tick of the stores, which is the last that a wheel can reach.
 const LAST: u32 = 16_777_215;
 
 const PACKET: Packet = Packet::Keepalive { sequence: 0 };
@@ -43,9 +43,9 @@ pub fn over_wheels_and_lists(heap: Global) -> anyhow::Result<Pair>
     let mut wire_rows = [Row::vacant(PACKET); WIRE_ROWS];
     let mut resend_rows = [Row::vacant(ATTEMPT); RESEND_ROWS];
     let mut keepalive_rows = [Row::vacant(0); KEEPALIVE_ROWS];
-    let mut wire = Wheel::new(&mut wire_rows);
-    let mut resend = Wheel::new(&mut resend_rows);
-    let mut keepalive = Wheel::new(&mut keepalive_rows);
+    let mut wire = Wheel::new(&mut wire_rows, 0, LAST);
+    let mut resend = Wheel::new(&mut resend_rows, 0, LAST);
+    let mut keepalive = Wheel::new(&mut keepalive_rows, 0, LAST);
     beside_lists(heap, &mut wire, &mut resend, &mut keepalive)
 }
 
