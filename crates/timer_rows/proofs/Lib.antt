@@ -1,5 +1,6 @@
 pub mod Columns
 pub mod Pending
+pub mod Seeks
 pub mod Cells
 pub mod Keeping
 pub mod Linking

@@ -1,5 +1,5 @@
 -- What a set of rows means.
-use Rattle.std.specs.Prelude.{◌≡◌, ℕ, ◌<◌, cond, ◌≢◌, List, [], ◌∷◌, map, length, take, drop, replicate, Option, MatchOption, ◌==◌, nat_lt, slice_index, slice_index_or}
+use Rattle.std.specs.Prelude.{◌≡◌, ℕ, ◌<◌, if◌then◌else◌, ◌≢◌, List, [], ◌∷◌, map, length, take, drop, replicate, Option, MatchOption, ◌==◌, nat_lt, slice_index, slice_index_or}
 use Rattle.timer.specs.Meaning.{Entry, Meaning}
 use Rattle.timer_rows.specs.declared.row.Row.{Row}
 use Rattle.timer_rows.specs.declared.ledger.Ledger.{Ledger}
@@ -41,12 +41,12 @@ vacated r =
 -- an entry put among others by its ticket
 abbrev pub placed : {P : Type 0} → Entry P → List (Entry P) → List (Entry P)
 placed e [] = e ∷ []
-placed e (f ∷ fs) = cond (nat_lt e.ticket f.ticket) (e ∷ f ∷ fs) (f ∷ placed e fs)
+placed e (f ∷ fs) = if nat_lt e.ticket f.ticket then e ∷ f ∷ fs else f ∷ placed e fs
 
 -- those that have a ticket, in the order of their tickets
 abbrev pub listed : {P : Type 0} → List (Entry P) → List (Entry P)
 listed [] = []
-listed (e ∷ es) = cond (e.ticket == 0) (listed es) (placed e (listed es))
+listed (e ∷ es) = if e.ticket == 0 then listed es else placed e (listed es)
 
 -- what the rows hold beside their links
 abbrev pub contents : {P : Type 0} → List (Row P) → List (Entry P)

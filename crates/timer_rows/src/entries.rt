@@ -36,7 +36,7 @@ pub fn check<P: Copy>(
         Some(TimerFault::Owner)
     } else if ledger.is_spent() {
         Some(TimerFault::Spent)
-    } else if ledger.pending as usize == rows.len() {
+    } else if usize::from(ledger.pending) == rows.len() {
         Some(TimerFault::Full)
     } else {
         None
@@ -65,10 +65,9 @@ pub fn enter<P: Copy>(
     rows[x] = Row {
         ticket,
         deadline,
-        next: row.next,
-        prev: row.prev,
         owner,
         payload,
+        ..row
     };
     ticket
 }

@@ -1,4 +1,4 @@
-ghost use Rattle.std.specs.Prelude.{◌≡◌, ℕ, ◌+◌, ◌^◌, ◌<◌, ◌≤◌, min, ltb, replicate, if◌then◌else◌, Ok, Err, ◌==◌, nat_eq, nat_le, nat_lt, slice_index};
+ghost use Rattle.std.specs.Prelude.{◌≡◌, ℕ, ◌+◌, ◌^◌, ◌<◌, ◌≤◌, min, replicate, if◌then◌else◌, Ok, Err, ◌==◌, nat_le, nat_lt, slice_index};
 ghost use Rattle.timer.specs.declared.fault.TimerFault.TheVariants.{Ended};
 ghost use Rattle.timer_rows.specs.Counts.{raised, lowered, ticked_ledger};
 
@@ -21,7 +21,7 @@ pub struct Ledger {
 
 impl Ledger {
     /// The ledger of a store that has given no ticket; a first tick above the last counts as the last.
-    pub fn new(first: u32, last: u32) -> Ledger
+    pub fn new(first: u32, last: u32) -> Self
         ensures { result ≡ record { now = min first last; last = last; given = 0; pending = 0; counts = replicate 64 0 } }
     {
         Ledger {
@@ -57,8 +57,8 @@ impl Ledger {
     /// Adds one to now, unless now is the last tick.
     pub fn tick(&mut self) -> Result<(), TimerFault>
         requires { self.now.now ≤ self.now.last }
-        ensures answer { result ≡ (if nat_eq self.entry.now.now self.entry.now.last then Err Ended else Ok tt) }
-        ensures after { self.exit.now ≡ (if nat_eq self.entry.now.now self.entry.now.last then self.entry.now else ticked_ledger self.entry.now) }
+        ensures answer { result ≡ (if self.entry.now.now == self.entry.now.last then Err Ended else Ok tt) }
+        ensures after { self.exit.now ≡ (if self.entry.now.now == self.entry.now.last then self.entry.now else ticked_ledger self.entry.now) }
     {
         if self.now == self.last {
             return Err(TimerFault::Ended);
@@ -69,13 +69,11 @@ impl Ledger {
 
     /// How many entries of the owner are pending; 0 for an owner above 63.
     pub fn count(&self, owner: u8) -> usize
-        ensures { result ≡ (if ltb owner 64 then slice_index self.entry.now.counts owner else 0) }
+        ensures { result ≡ (if nat_lt owner 64 then slice_index self.entry.now.counts owner else 0) }
     {
-        if owner < 64 {
-            self.counts[owner as usize] as usize
-        } else {
-            0
-        }
+        self.counts
+            .get(usize::from(owner))
+            .map_or(0, |count| usize::from(*count))
     }
 
     /// Counts one more entry of the owner, and answers its ticket.
@@ -87,7 +85,7 @@ impl Ledger {
     {
         self.given += 1;
         self.pending += 1;
-        self.counts[owner as usize] += 1;
+        self.counts[usize::from(owner)] += 1;
         self.given
     }
 
@@ -98,6 +96,6 @@ impl Ledger {
         ensures { self.exit.now ≡ lowered self.entry.now owner }
     {
         self.pending -= 1;
-        self.counts[owner as usize] -= 1;
+        self.counts[usize::from(owner)] -= 1;
     }
 }

@@ -94,9 +94,9 @@ pub fn unlink_all(ends: &mut [Ends], rows: usize)
     requires { rows + length ends.old ≤ 65535 }
     ensures { (s : ℕ) → s < length ends.new → slice_index_or ends.new s (record { head = 0; tail = 0 }) ≡ record { head = rows + s; tail = rows + s } }
 {
-    for s in 0..ends.len() {
+    for (s, end) in ends.iter_mut().enumerate() {
         let sentinel = (rows + s) as u16;
-        ends[s] = Ends {
+        *end = Ends {
             head: sentinel,
             tail: sentinel,
         };

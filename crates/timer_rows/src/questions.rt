@@ -21,7 +21,7 @@ pub fn pending<P: Copy>(rows: &[Row<P>], ledger: &Ledger) -> usize
     requires { ∥ Kept (used rows.now) ledger.now ∥₁ }
     ensures { result ≡ length (entries (used rows.now)) }
 {
-    ledger.pending as usize
+    usize::from(ledger.pending)
 }
 
 /// How many entries of the owner may be pending: as many as there are rows, or none for an owner above 63.

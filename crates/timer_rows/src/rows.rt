@@ -1,21 +1,15 @@
-ghost use Rattle.std.specs.Prelude.{◌≡◌, ℕ, ◌<◌, ◌≤◌, ◌≢◌, length, None, MatchOption, slice_index};
+ghost use Rattle.std.specs.Prelude.{◌≡◌, ℕ, ◌<◌, ◌≤◌, ◌≢◌, ◌==◌, length, None, MatchOption, position, slice_index};
 ghost use Rattle.timer.specs.Rules.{find};
 ghost use Rattle.timer_rows.specs.Rows.{tickets, entries, Sought};
 
 use crate::ledger::Ledger;
 use crate::row::Row;
 
-// The first row from `from` on, and before `to`, that has the ticket.
-fn seek<P: Copy>(rows: &[Row<P>], from: usize, to: usize, ticket: u32) -> Option<usize>
-    requires { (from ≤ to) × (to ≤ length rows.now) }
-    ensures { MatchOption result ((i : ℕ) → i < to → from ≤ i → slice_index (tickets rows.now) i ≢ ticket) (λ i. (i < length rows.now) × (slice_index (tickets rows.now) i ≡ ticket)) }
+// The first of the rows that has the ticket.
+fn seek<P: Copy>(rows: &[Row<P>], ticket: u32) -> Option<usize>
+    ensures { result ≡ position (λ r. r.ticket == ticket) rows.now }
 {
-    for i in from..to {
-        if rows[i].ticket == ticket {
-            return Some(i);
-        }
-    }
-    None
+    rows.iter().position(|row| row.ticket == ticket)
 }
 
 // A row that has the ticket, or with ticket 0 a vacant row; the search starts at `near` modulo the number of rows.
@@ -23,15 +17,11 @@ fn seek<P: Copy>(rows: &[Row<P>], from: usize, to: usize, ticket: u32) -> Option
 fn seek_from<P: Copy>(rows: &[Row<P>], ticket: u32, near: u32) -> Option<usize>
     ensures { Sought rows.now ticket result }
 {
-    let count = rows.len();
-    if count == 0 {
-        return None;
+    let home = (near as usize).checked_rem(rows.len())?;
+    if let Some(x) = seek(&rows[home..], ticket) {
+        return Some(home + x);
     }
-    let home = near as usize % count;
-    match seek(rows, home, count, ticket) {
-        Some(i) => Some(i),
-        None => seek(rows, 0, home, ticket),
-    }
+    seek(&rows[..home], ticket)
 }
 
 /// The row of the pending entry with the ticket.
@@ -50,8 +40,5 @@ pub fn vacant<P: Copy>(rows: &[Row<P>], ledger: &Ledger) -> usize
     requires { length (entries rows.now) ≢ length rows.now }
     ensures { (result < length rows.now) × (slice_index (tickets rows.now) result ≡ 0) }
 {
-    match seek_from(rows, 0, ledger.given.saturating_add(1)) {
-        Some(x) => x,
-        None => unreachable(),
-    }
+    seek_from(rows, 0, ledger.given.saturating_add(1)).unwrap()
 }

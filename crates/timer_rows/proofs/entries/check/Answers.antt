@@ -20,10 +20,10 @@ pub returns-then-is_spent : goal.returns-then-is_spent
 returns-then-is_spent g c =
     check_spent (meant c.args.rows.now c.args.ledger.now) c.args.deadline c.args.owner (sym c.is_past.ensures ∙ c.if-is_past.false) (sym c.is_late.ensures ∙ c.if-is_late.false) (omega arith) (sym c.is_spent.ensures ∙ c.if-is_spent.true)
 
-pub returns-then-ledger-rows : goal.returns-then-ledger-rows
-returns-then-ledger-rows g c =
-    check_full (meant c.args.rows.now c.args.ledger.now) c.args.deadline c.args.owner (sym c.is_past.ensures ∙ c.if-is_past.false) (sym c.is_late.ensures ∙ c.if-is_late.false) (omega arith) (sym c.is_spent.ensures ∙ c.if-is_spent.false) (sym c.requires.sized ∙ c.if-ledger-rows.true)
+pub returns-then-from-rows : goal.returns-then-from-rows
+returns-then-from-rows g c =
+    check_full (meant c.args.rows.now c.args.ledger.now) c.args.deadline c.args.owner (sym c.is_past.ensures ∙ c.if-is_past.false) (sym c.is_late.ensures ∙ c.if-is_late.false) (omega arith) (sym c.is_spent.ensures ∙ c.if-is_spent.false) (sym c.requires.sized ∙ sym c.from.ensures ∙ c.if-from-rows.true)
 
-pub returns-else-ledger-rows : goal.returns-else-ledger-rows
-returns-else-ledger-rows g c =
-    check_none c.args.rows.now c.args.ledger.now c.requires c.args.deadline c.args.owner (sym c.is_past.ensures ∙ c.if-is_past.false) (sym c.is_late.ensures ∙ c.if-is_late.false) (omega arith) (sym c.is_spent.ensures ∙ c.if-is_spent.false) (λ e. omega (arith, e))
+pub returns-else-from-rows : goal.returns-else-from-rows
+returns-else-from-rows g c =
+    check_none c.args.rows.now c.args.ledger.now c.requires c.args.deadline c.args.owner (sym c.is_past.ensures ∙ c.if-is_past.false) (sym c.is_late.ensures ∙ c.if-is_late.false) (omega arith) (sym c.is_spent.ensures ∙ c.if-is_spent.false) (λ e. c.if-from-rows.false (c.from.ensures ∙ e))
