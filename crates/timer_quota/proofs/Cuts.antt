@@ -1,5 +1,7 @@
 -- The rules, on a store and on the quota over it.
-use Rattle.std.proofs.Common.{◌≡◌, ℕ, zero, suc, ◌<◌, ◌≤◌, min, List, [], ◌∷◌, get_or, Some, None, sym, refl, ap, ◌∙◌, arith}
+use Rattle.std.proofs.Common.{◌≡◌, ℕ, zero, suc, min, if◌then◌else◌, nat_le, nat_lt, List, [], ◌∷◌, get_or, Some, None, sym, refl, ap, ◌∙◌, arith}
+use Rattle.std.specs.Bool.{then_some}
+use Rattle.std.specs.Option.{option_or}
 use Rattle.std.proofs.lemmas.Bool.Decides.{nat_tests}
 use Rattle.timer.specs.declared.fault.TimerFault.{TimerFault}
 use Rattle.timer.specs.declared.fault.TimerFault.TheVariants.{Limit}
@@ -15,21 +17,24 @@ cut_at (x ∷ xs) (n ∷ ns) zero = refl
 cut_at (x ∷ xs) (n ∷ ns) (suc i) = cut_at xs ns i
 
 module _ {P : Type 0} (m : Meaning P) (ns : List ℕ) where
-  pub limit_cut : (o : ℕ) → o < 64 → min (limit_rule m o) (get_or ns o 0) ≡ limit_rule (limited m ns) o
-  limit_cut o h = let e = cut_at m.limits ns o in grind (arith, nat_tests)
+  pub limit_cut : (o : ℕ) → min (if nat_lt o 64 then get_or ns o 0 else 0) (limit_rule m o) ≡ limit_rule (limited m ns) o
+  limit_cut o = let e = cut_at m.limits ns o in grind (arith, nat_tests)
 
   -- a refusal of the store below comes through, and then the quota's own
-  pub check_below : (d o : ℕ) (f : TimerFault) → Some f ≡ check_rule m d o → Some f ≡ check_rule (limited m ns) d o
+  check_below : (d o : ℕ) (f : TimerFault) → Some f ≡ check_rule m d o → Some f ≡ check_rule (limited m ns) d o
   unfolding check_rule
   check_below d o f h = let e = cut_at m.limits ns o in grind (arith, nat_tests)
 
-  pub check_limit : (d o : ℕ) → None ≡ check_rule m d o → get_or ns o 0 ≤ count_rule m o → Some Limit ≡ check_rule (limited m ns) d o
+  check_own : (d o : ℕ) → None ≡ check_rule m d o → then_some (nat_le (limit_rule (limited m ns) o) (count_rule m o)) Limit ≡ check_rule (limited m ns) d o
   unfolding check_rule
-  check_limit d o h q = let e = cut_at m.limits ns o in grind (arith, nat_tests)
+  check_own d o h = let e = cut_at m.limits ns o in grind (arith, nat_tests)
 
-  pub check_clear : (d o : ℕ) → None ≡ check_rule m d o → count_rule m o < get_or ns o 0 → None ≡ check_rule (limited m ns) d o
-  unfolding check_rule
-  check_clear d o h q = let e = cut_at m.limits ns o in grind (arith, nat_tests)
+  pub check_cut : (d o : ℕ) → option_or (check_rule m d o) (then_some (nat_le (limit_rule (limited m ns) o) (count_rule m o)) Limit) ≡ check_rule (limited m ns) d o
+  check_cut d o =
+      elim (check_rule m d o) as (λ c. c ≡ check_rule m d o → option_or c (then_some (nat_le (limit_rule (limited m ns) o) (count_rule m o)) Limit) ≡ check_rule (limited m ns) d o) [
+        | None ↦ λ h. check_own d o h
+        | Some f ↦ λ h. check_below d o f h
+      ] refl
 
   pub check_inner : (d o : ℕ) → None ≡ check_rule (limited m ns) d o → None ≡ check_rule m d o
   unfolding check_rule

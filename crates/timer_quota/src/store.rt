@@ -42,12 +42,7 @@ impl<'s, P: Copy, S: Store<P>> Store<P> for Quota<'s, S> {
     }
 
     fn limit(&self, owner: u8) -> usize {
-        let below = self.inner.limit(owner);
-        if owner < 64 {
-            below.min(self.numbers[owner as usize] as usize)
-        } else {
-            0
-        }
+        self.number(owner).min(self.inner.limit(owner))
     }
 
     fn count(&self, owner: u8) -> usize {
@@ -55,16 +50,9 @@ impl<'s, P: Copy, S: Store<P>> Store<P> for Quota<'s, S> {
     }
 
     fn check(&self, deadline: u32, owner: u8) -> Option<TimerFault> {
-        match self.inner.check(deadline, owner) {
-            Some(fault) => Some(fault),
-            None => {
-                if self.inner.count(owner) >= self.numbers[owner as usize] as usize {
-                    Some(TimerFault::Limit)
-                } else {
-                    None
-                }
-            }
-        }
+        let at_limit = self.count(owner) >= self.limit(owner);
+        let own = at_limit.then_some(TimerFault::Limit);
+        self.inner.check(deadline, owner).or(own)
     }
 
     fn start(&mut self, deadline: u32, owner: u8, payload: P) -> Result<u32, TimerFault> {
