@@ -2,3 +2,4 @@ pub mod Lent
 pub mod Noting
 pub mod Outcome
 pub mod Alike
+pub mod Telling

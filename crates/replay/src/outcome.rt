@@ -1,8 +1,10 @@
-ghost use Rattle.std.specs.Prelude.{◌≡◌};
+ghost use Rattle.std.specs.Prelude.{◌≡◌, Some};
 ghost use Rattle.replay.specs.declared.outcome.Stopped.TheVariants.{Begin, Memory};
 
 use session::answer::Note;
 use std::alloc::AllocError;
+use std::error::Error;
+use std::fmt;
 use transport::rig::{Finished, Refused};
 
 /// A session that was played to its end.
@@ -40,3 +42,18 @@ impl From<Refused> for Stopped {
         Stopped::Begin(refused)
     }
 }
+
+impl fmt::Display for Stopped {
+    ghost use Rattle.replay.specs.Telling.{stopped_text};
+
+    ghost output = { λ x. Some (stopped_text x) };
+
+    fn fmt<W: fmt::Write>(&self, f: &mut fmt::Formatter<W>) -> fmt::Result {
+        match self {
+            Stopped::Begin(_) => write!(f, "the session could not begin"),
+            Stopped::Memory => write!(f, "memory ran out"),
+        }
+    }
+}
+
+impl Error for Stopped {}

@@ -3,11 +3,14 @@
 mod stores;
 mod task;
 
-use crate::stores::Layers;
+use crate::stores::{Layers, over};
 use journal::compare::agree;
 use journal::note::{Effect, Kind, Note};
 use journal::record::how_many;
 use timer::fault::TimerFault;
+use timer_heap::heap::HeapOrder;
+use timer_list::list::ListOrder;
+use timer_wheel::wheel::WheelOrder;
 
 fn main(rt: HostRuntime) -> anyhow::Result<()> {
     run(&rt)
@@ -16,31 +19,31 @@ fn main(rt: HostRuntime) -> anyhow::Result<()> {
 // Plays the task over the list and prints its journal; then over each other store, and under the quota, and prints whether they agree.
 fn run(rt: &HostRuntime) -> anyhow::Result<()> {
     let memory = rt.alloc();
-    let notes = stores::list(Layers::Bare, memory)?;
+    let notes = over::<ListOrder>(Layers::Bare, memory)?;
     println!(rt; "tick what ticket deadline owner payload")?;
     print_notes(rt, &notes, |effect| !matches!(effect, Effect::Advanced))?;
     print_end(rt, &notes)?;
-    compare(rt, "heap", &notes, &stores::heap(Layers::Bare, memory)?)?;
-    compare(rt, "wheel", &notes, &stores::wheel(Layers::Bare, memory)?)?;
+    compare(rt, "heap", &notes, &over::<HeapOrder>(Layers::Bare, memory)?)?;
+    compare(rt, "wheel", &notes, &over::<WheelOrder>(Layers::Bare, memory)?)?;
     println!(rt; "under a quota of 3 for owner 9")?;
-    let limited = stores::list(Layers::Quota, memory)?;
+    let limited = over::<ListOrder>(Layers::Quota, memory)?;
     print_notes(
         rt,
         &limited,
         |effect| matches!(effect, Effect::Refused(_, TimerFault::Limit)),
     )?;
-    compare(rt, "heap", &limited, &stores::heap(Layers::Quota, memory)?)?;
+    compare(rt, "heap", &limited, &over::<HeapOrder>(Layers::Quota, memory)?)?;
     compare(
         rt,
         "wheel",
         &limited,
-        &stores::wheel(Layers::Quota, memory)?,
+        &over::<WheelOrder>(Layers::Quota, memory)?,
     )?;
     compare(
         rt,
         "quota over quota",
         &limited,
-        &stores::wheel(Layers::QuotaTwice, memory)?,
+        &over::<WheelOrder>(Layers::QuotaTwice, memory)?,
     )
 }
 

@@ -3,13 +3,10 @@ use journal::note::Note;
 use journal::record::tell;
 use std::alloc::{AllocError, Global};
 use timer::store::Store;
-use timer_heap::heap::HeapOrder;
-use timer_list::list::ListOrder;
 use timer_order::order::Order;
 use timer_order::row_store::RowStore;
 use timer_quota::quota::Quota;
 use timer_rows::row::Row;
-use timer_wheel::wheel::WheelOrder;
 
 /// How the task meets a store.
 #[derive(Clone, Copy)]
@@ -20,21 +17,6 @@ pub enum Layers {
     Quota,
     /// Under two quotas that allow together what the one allows.
     QuotaTwice,
-}
-
-/// The task's journal over a sorted list.
-pub fn list(layers: Layers, heap: Global) -> Result<Vec<Note>, AllocError> {
-    over::<ListOrder>(layers, heap)
-}
-
-/// The task's journal over a heap.
-pub fn heap(layers: Layers, heap: Global) -> Result<Vec<Note>, AllocError> {
-    over::<HeapOrder>(layers, heap)
-}
-
-/// The task's journal over a wheel.
-pub fn wheel(layers: Layers, heap: Global) -> Result<Vec<Note>, AllocError> {
-    over::<WheelOrder>(layers, heap)
 }
 
 /// The task's journal over a store in an order.

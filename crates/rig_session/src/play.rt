@@ -3,7 +3,6 @@ ghost use Rattle.replay.specs.Alike.{Both};
 ghost use Rattle.rig_session.specs.Stores.{idle};
 
 use crate::script;
-use anyhow::anyhow;
 use channel::record::{Attempt, Channel};
 use link::packet::Packet;
 use replay::lent::Lent;
@@ -96,12 +95,8 @@ fn play<
 {
     let mut fates = [0; 2];
     let mut other_fates = [0; 2];
-    let Ok(draft) = script::draft(&mut fates) else {
-        return Err(anyhow!("the list of fates is full"));
-    };
-    let Ok(other_draft) = script::draft(&mut other_fates) else {
-        return Err(anyhow!("the list of fates is full"));
-    };
+    let draft = script::draft(&mut fates)?;
+    let other_draft = script::draft(&mut other_fates)?;
     let mut table = [Channel::unused(); 64];
     let mut other_table = [Channel::unused(); 64];
     let mut limited = Quota::new(wire, [script::WIRE_QUOTA; 64]);

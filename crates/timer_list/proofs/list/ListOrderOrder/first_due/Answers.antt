@@ -19,7 +19,7 @@ returns g c =
     let l = ltb-true _ _ (sym f.0) in
     let d = read_deadline rows _ c.in_ok-get.field-0.now f.1 l in
     rw c.then_some.ensures (
-      asked rows c.args.ledger.now.now c.from-x.result c.is_due.result
-      (λ e. list_due rows c.args.ledger.now c.args.self.now.ends c.requires.kept c.requires.held _ x l (d ∙ eqb-true _ _ (sym c.is_due.ensures ∙ e)))
-      (λ e. list_later rows c.args.ledger.now c.args.self.now.ends c.requires.kept c.requires.held _ x l (λ q. eqb-false _ _ (sym c.is_due.ensures ∙ e) (sym d ∙ q)))
+    asked rows c.args.ledger.now.now c.from-x.result c.is_due.result
+    (λ e. list_due rows c.args.ledger.now c.args.self.now.ends c.requires.kept c.requires.held _ x l (d ∙ eqb-true _ _ (sym c.is_due.ensures ∙ e)))
+    (λ e. list_later rows c.args.ledger.now c.args.self.now.ends c.requires.kept c.requires.held _ x l (λ q. eqb-false _ _ (sym c.is_due.ensures ∙ e) (sym d ∙ q)))
     )
