@@ -148,13 +148,15 @@ answered r sequence sample =
     let places : List (Option ℕ) = slice_set r.sending (sequence % 8) None in
     with_sending r r.next (risen 8 r.base r.next places) places (sampled sample r.estimator)
 
--- receiving: the word to take next, if it is there
+-- receiving: the place of a number among those that may arrive
 abbrev pub receive_place : Channel → ℕ → Option ℕ
 receive_place r sequence = slice_index_or r.receiving (sequence % 8) None
 
+-- a word with its number
 abbrev pub numbered : ℕ → ℕ → Segment
 numbered sequence word = record { sequence = sequence; word = word }
 
+-- the word to take next, if it is there
 abbrev pub front : Channel → Option Segment
 front r = option_map (numbered r.taken) (receive_place r r.taken)
 

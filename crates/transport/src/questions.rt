@@ -29,8 +29,7 @@ impl Running {
     pub fn status_number(&self, table: &[Channel], channel: u32) -> u8
         ensures { result ≡ status_number_in (take 64 table.now) channel }
     {
-        self.status(table, channel)
-            .map_or(3, |status| status.number())
+        self.status(table, channel).map_or(3, Status::number)
     }
 
     /// The retransmission timeout of a channel in ticks, or 0 for a channel above 63 or past the table.
