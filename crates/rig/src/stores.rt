@@ -20,7 +20,7 @@ pub enum Layers {
 }
 
 /// The task's journal over a store in an order.
-pub fn over<O: Order<u32>>(layers: Layers, heap: Global) -> Result<Vec<Note>, AllocError> {
+pub fn over<O: Order<u32> + Drop>(layers: Layers, heap: Global) -> Result<Vec<Note>, AllocError> {
     let mut rows = [Row::vacant(0); 8];
     let mut store = RowStore::<u32, O>::new(&mut rows, 0, task::LAST);
     told(&mut store, layers, heap)

@@ -1,6 +1,6 @@
 -- The slots of a store after an entry has come or gone.
 use Rattle.std.proofs.Common.{◌≡◌, ℕ, ◌+◌, ◌-◌, ◌<◌, ◌≤◌, List, [], ◌∷◌, ◌++◌, map, length, get_or, set, sym, refl, ap, ◌∙◌, ⊎_elim, arith}
-use Rattle.std.proofs.lemmas.List.{length-map, length-set, map-set, set-append_left, get_or_append_left, get_or-map, get_or_past, get_or-set_same}
+use Rattle.std.proofs.lemmas.List.{length-map, length-set, map-set, set-append_left, get_or_past, get_or-set_same}
 use Rattle.std.proofs.lemmas.Bool.{cases_lt}
 use Rattle.timer.specs.Meaning.{Entry}
 use Rattle.timer_rows.specs.declared.row.Row.{Row}
@@ -38,11 +38,6 @@ module _ {P : Type 0} (home : Entry P → ℕ) (tail : List ℕ) (key : Entry P 
   homes_same a b e = ap (λ c. c ++ tail) (same_column home a b e)
 
   -- the slot of a row
-  pub home_of_row : (rows : List (Row P)) (x : ℕ) (d : Row P) (m : ℕ) → x < length rows → get_or (homes_by home tail rows) x m ≡ home (entry_of (get_or rows x d))
-  home_of_row rows x d m l =
-      get_or_append_left (map (λ r. home (entry_of r)) rows) tail m x (omega (arith, length-map rows (λ r. home (entry_of r))))
-      ∙ get_or-map (λ r. home (entry_of r)) rows x d m l
-
   -- the row x is unlinked, and then gives up its entry
   pub slots_leave : (m : ℕ) (rows mid rows' : List (Row P)) (es es' : List Ends) (x : ℕ) (d : Row P) → Slots home tail key rows es m → x < length rows → get_or (homes_by home tail rows) x m < m → contents mid ≡ contents rows → ons mid es' ≡ set (ons rows es) (get_or (backs rows es) x 0) (get_or (ons rows es) x 0) → backs mid es' ≡ set (backs rows es) (get_or (ons rows es) x 0) (get_or (backs rows es) x 0) → rows' ≡ set mid x (vacated (get_or mid x d)) → home (entry_of (vacated (get_or mid x d))) ≡ m → Slots home tail key rows' es' m
   slots_leave m rows mid rows' es es' x d k l w same on back is gone =

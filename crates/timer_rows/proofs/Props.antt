@@ -55,6 +55,3 @@ linked_prop ns ps hs ks n m p q =
       homes = long hs (n + m) p.homes q.homes i;
       keys = long ks n p.keys q.keys i;
     }
-
-pub linked_out_of : (ns ps hs ks : List ℕ) (n m : ℕ) → ∥ Linked ns ps hs ks n m ∥₁ → Linked ns ps hs ks n m
-linked_out_of ns ps hs ks n m t = ∥∥₁_elim t (linked_prop ns ps hs ks n m) (λ k. k)
