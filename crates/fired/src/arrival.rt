@@ -1,14 +1,11 @@
-ghost use Rattle.std.specs.Prelude.{◌≡◌, length, Ok};
+ghost use Rattle.std.specs.Prelude.{◌≡◌, Ok};
 ghost use Rattle.protocol.specs.Obeys.{Obeys};
-ghost use Rattle.timer.specs.Frame.{Framed};
-ghost use Rattle.protocol.specs.State.{State};
 ghost use Rattle.protocol.specs.Rules.{arrival, told_arrival};
-ghost use Rattle.engine.specs.Parts.{state_of};
+ghost use Rattle.engine.specs.Loans.{lent_state, Kept};
 
 use crate::packet::{acknowledgement, data};
-use channel::record::{Attempt, Channel};
-use engine::live::live;
-use engine::rig::Rig;
+use channel::record::Attempt;
+use engine::lent::Lent;
 use link::packet::Packet;
 use timer::expired::Expired;
 use timer::store::Store;
@@ -37,28 +34,19 @@ fn told(owner: u8, packet: Packet) -> Action
 
 /// A packet arrives.
 pub fn arrival<W: Store<Packet>, R: Store<Attempt>, K: Store<u8>>(
-    rig: &mut Rig,
-    wire: &mut W,
-    resend: &mut R,
-    keepalive: &K,
-    records: &mut [Channel],
-    fates: &[u16],
+    lent: &mut Lent<W, R, K>,
     entry: Expired<Packet>,
 ) -> Action
-    requires { length records.old ≡ 64 }
-    ensures obeys { Obeys (λ s. arrival s entry) (state_of rig.old fates.now (W.meaning wire.old) (R.meaning resend.old) (K.meaning keepalive.now) records.old) (Ok result) (state_of rig.new fates.now (W.meaning wire.new) (R.meaning resend.new) (K.meaning keepalive.now) records.new) }
-    ensures wire { Framed W.Store wire.old wire.new }
-    ensures resend { Framed R.Store resend.old resend.new }
+    ensures obeys { Obeys (λ s. arrival s entry) (lent_state W.Store R.Store K.Store lent.old) (Ok result) (lent_state W.Store R.Store K.Store lent.new) }
+    ensures kept { Kept W.Store R.Store K.Store lent.old lent.new }
 {
     let owner = entry.owner;
-    if !live(records, owner) {
+    if !lent.live(owner) {
         return told(owner, entry.payload);
     }
     match entry.payload {
-        Packet::Data(segment) => data(rig, wire, resend, keepalive, records, fates, owner, segment),
-        Packet::Acknowledgement { sequence } => acknowledgement(
-            rig, wire, resend, keepalive, records, fates, owner, sequence,
-        ),
+        Packet::Data(segment) => data(lent, owner, segment),
+        Packet::Acknowledgement { sequence } => acknowledgement(lent, owner, sequence),
         Packet::Keepalive { sequence } => Action::KeepaliveArrived {
             channel: owner,
             sequence,

@@ -1,6 +1,6 @@
 #![tactic(auto)]
 
-// The workshop of `transport`: what becomes of an entry that a step takes from a store, over a table of just 64 records. The functions have preconditions; `transport` is the interface without any.
+// The workshop of `transport`: what becomes of an entry that a step takes from a store, over what is lent to the step.
 
 pub mod arrival;
 pub mod due;

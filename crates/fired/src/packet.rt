@@ -1,14 +1,13 @@
-ghost use Rattle.std.specs.Prelude.{◌≡◌, ◌<◌, length, Ok};
+ghost use Rattle.std.specs.Prelude.{◌≡◌, ◌<◌, Ok};
 ghost use Rattle.protocol.specs.Obeys.{Obeys};
 ghost use Rattle.timer.specs.Frame.{Framed};
 ghost use Rattle.timer.specs.Rules.{stop_rule};
-ghost use Rattle.protocol.specs.State.{State};
 ghost use Rattle.protocol.specs.Rules.{data_rule, acknowledgement_rule, sample_of};
-ghost use Rattle.engine.specs.Parts.{state_of};
+ghost use Rattle.engine.specs.Loans.{lent_state, Kept};
 
-use channel::record::{Attempt, Channel};
+use channel::record::Attempt;
 use engine::cancel::cancel;
-use engine::rig::Rig;
+use engine::lent::Lent;
 use link::packet::Packet;
 use timer::store::Store;
 use trace::action::{Action, Segment};
@@ -26,23 +25,18 @@ fn stop_attempt<R: Store<Attempt>>(resend: &mut R, ticket: u32, tick: u32) -> Op
 }
 
 /// A word arrives on an open channel.
+#[tactic(auto, unfolding(protocol::specs::Rules::data_rule))]
 pub(crate) fn data<W: Store<Packet>, R: Store<Attempt>, K: Store<u8>>(
-    rig: &mut Rig,
-    wire: &mut W,
-    resend: &R,
-    keepalive: &K,
-    records: &mut [Channel],
-    fates: &[u16],
+    lent: &mut Lent<W, R, K>,
     owner: u8,
     segment: Segment,
 ) -> Action
-    requires { (length records.old ≡ 64) × (owner < 64) }
-    ensures obeys { Obeys (λ s. data_rule s owner segment) (state_of rig.old fates.now (W.meaning wire.old) (R.meaning resend.now) (K.meaning keepalive.now) records.old) (Ok result) (state_of rig.new fates.now (W.meaning wire.new) (R.meaning resend.now) (K.meaning keepalive.now) records.new) }
-    ensures wire { Framed W.Store wire.old wire.new }
+    requires { owner < 64 }
+    ensures obeys { Obeys (λ s. data_rule s owner segment) (lent_state W.Store R.Store K.Store lent.old) (Ok result) (lent_state W.Store R.Store K.Store lent.new) }
+    ensures kept { Kept W.Store R.Store K.Store lent.old lent.new }
 {
-    let index = owner as usize;
-    let record = records[index].read();
-    records[index] = record.received(segment);
+    let record = lent.record_of(owner);
+    lent.put(owner, record.received(segment));
     if !record.acknowledges(segment.sequence) {
         return Action::DataArrived {
             channel: owner,
@@ -53,7 +47,7 @@ pub(crate) fn data<W: Store<Packet>, R: Store<Attempt>, K: Store<u8>>(
     let packet = Packet::Acknowledgement {
         sequence: segment.sequence,
     };
-    let transmission = rig.transmit(wire, fates, owner, packet);
+    let transmission = lent.transmit(owner, packet);
     Action::DataArrived {
         channel: owner,
         segment,
@@ -62,29 +56,25 @@ pub(crate) fn data<W: Store<Packet>, R: Store<Attempt>, K: Store<u8>>(
 }
 
 /// An acknowledgement arrives on an open channel.
+#[tactic(auto, unfolding(protocol::specs::Rules::acknowledgement_rule))]
 pub(crate) fn acknowledgement<W: Store<Packet>, R: Store<Attempt>, K: Store<u8>>(
-    rig: &Rig,
-    wire: &W,
-    resend: &mut R,
-    keepalive: &K,
-    records: &mut [Channel],
-    fates: &[u16],
+    lent: &mut Lent<W, R, K>,
     owner: u8,
     sequence: u32,
 ) -> Action
-    requires { (length records.old ≡ 64) × (owner < 64) }
-    ensures obeys { Obeys (λ s. acknowledgement_rule s owner sequence) (state_of rig.now fates.now (W.meaning wire.now) (R.meaning resend.old) (K.meaning keepalive.now) records.old) (Ok result) (state_of rig.now fates.now (W.meaning wire.now) (R.meaning resend.new) (K.meaning keepalive.now) records.new) }
-    ensures resend { Framed R.Store resend.old resend.new }
+    requires { owner < 64 }
+    ensures obeys { Obeys (λ s. acknowledgement_rule s owner sequence) (lent_state W.Store R.Store K.Store lent.old) (Ok result) (lent_state W.Store R.Store K.Store lent.new) }
+    ensures kept { Kept W.Store R.Store K.Store lent.old lent.new }
 {
-    let index = owner as usize;
-    let record = records[index].read();
-    records[index] = match record.awaits(sequence) {
+    let record = lent.record_of(owner);
+    let answered = match record.awaits(sequence) {
         Some(ticket) => {
-            let sample = stop_attempt(resend, ticket, wire.now());
+            let sample = stop_attempt(lent.resend, ticket, lent.wire.now());
             record.answered(sequence, sample)
         }
         None => record,
     };
+    lent.put(owner, answered);
     Action::AcknowledgementArrived {
         channel: owner,
         sequence,

@@ -1,6 +1,6 @@
 #![tactic(auto)]
 
-// The workshop of `transport`: its step, over a table of just 64 records. The functions have preconditions; `transport` is the interface without any.
+// The workshop of `transport`: its step, over what is lent to it.
 
 pub mod step;
 mod tick;

@@ -1,15 +1,14 @@
-ghost use Rattle.std.specs.Prelude.{◌≡◌, length, None};
+ghost use Rattle.std.specs.Prelude.{◌≡◌, None};
 ghost use Rattle.protocol.specs.Obeys.{Obeys};
 ghost use Rattle.timer.specs.Frame.{Framed};
 ghost use Rattle.timer.specs.Rules.{take_rule};
-ghost use Rattle.protocol.specs.State.{State};
 ghost use Rattle.protocol.specs.Rules.{moved};
-ghost use Rattle.engine.specs.Parts.{state_of};
+ghost use Rattle.engine.specs.Loans.{lent_state, Kept};
 ghost use Rattle.stepping.specs.Bodies.{step_body};
 
 use crate::tick::tick;
-use channel::record::{Attempt, Channel};
-use engine::rig::Rig;
+use channel::record::Attempt;
+use engine::lent::Lent;
 use fired::arrival::arrival;
 use fired::due::{beat_due, resend_due};
 use link::packet::Packet;
@@ -33,52 +32,36 @@ fn take_due<P, S: Store<P>>(store: &mut S) -> Option<Expired<P>>
 
 // Does the first that is due, from store to store, or lets the tick go on.
 fn proceed<W: Store<Packet>, R: Store<Attempt>, K: Store<u8>>(
-    rig: &mut Rig,
-    wire: &mut W,
-    resend: &mut R,
-    keepalive: &mut K,
-    records: &mut [Channel],
-    fates: &[u16],
+    lent: &mut Lent<W, R, K>,
 ) -> Result<Action, RigFault>
-    requires { length records.old ≡ 64 }
-    ensures obeys { Obeys moved (state_of rig.old fates.now (W.meaning wire.old) (R.meaning resend.old) (K.meaning keepalive.old) records.old) result (state_of rig.new fates.now (W.meaning wire.new) (R.meaning resend.new) (K.meaning keepalive.new) records.new) }
-    ensures wire { Framed W.Store wire.old wire.new }
-    ensures resend { Framed R.Store resend.old resend.new }
-    ensures keepalive { Framed K.Store keepalive.old keepalive.new }
+    ensures obeys { Obeys moved (lent_state W.Store R.Store K.Store lent.old) result (lent_state W.Store R.Store K.Store lent.new) }
+    ensures kept { Kept W.Store R.Store K.Store lent.old lent.new }
 {
-    if let Some(entry) = take_due(wire) {
-        return Ok(arrival(rig, wire, resend, keepalive, records, fates, entry));
+    if let Some(entry) = take_due(lent.wire) {
+        return Ok(arrival(lent, entry));
     }
-    if let Some(entry) = take_due(resend) {
-        return resend_due(rig, wire, resend, keepalive, records, fates, entry);
+    if let Some(entry) = take_due(lent.resend) {
+        return resend_due(lent, entry);
     }
-    if let Some(entry) = take_due(keepalive) {
-        return beat_due(rig, wire, resend, keepalive, records, fates, entry);
+    if let Some(entry) = take_due(lent.keepalive) {
+        return beat_due(lent, entry);
     }
-    tick(rig, wire, resend, keepalive, records, fates)
+    tick(lent)
 }
 
 /// Does the first that is due, or lets the tick go on.
 pub fn step<W: Store<Packet>, R: Store<Attempt>, K: Store<u8>>(
-    rig: &mut Rig,
-    wire: &mut W,
-    resend: &mut R,
-    keepalive: &mut K,
-    records: &mut [Channel],
-    fates: &[u16],
+    lent: &mut Lent<W, R, K>,
 ) -> Result<Action, RigFault>
-    requires { length records.old ≡ 64 }
-    ensures obeys { Obeys step_body (state_of rig.old fates.now (W.meaning wire.old) (R.meaning resend.old) (K.meaning keepalive.old) records.old) result (state_of rig.new fates.now (W.meaning wire.new) (R.meaning resend.new) (K.meaning keepalive.new) records.new) }
-    ensures wire { Framed W.Store wire.old wire.new }
-    ensures resend { Framed R.Store resend.old resend.new }
-    ensures keepalive { Framed K.Store keepalive.old keepalive.new }
+    ensures obeys { Obeys step_body (lent_state W.Store R.Store K.Store lent.old) result (lent_state W.Store R.Store K.Store lent.new) }
+    ensures kept { Kept W.Store R.Store K.Store lent.old lent.new }
 {
-    if rig.low(wire, resend, keepalive) {
+    if lent.low() {
         return Err(RigFault::Spent);
     }
-    let due = wire.due() || resend.due() || keepalive.due();
-    if !due && wire.now().saturating_add(MARGIN) >= wire.last() {
+    let due = lent.wire.due() || lent.resend.due() || lent.keepalive.due();
+    if !due && lent.wire.now().saturating_add(MARGIN) >= lent.wire.last() {
         return Err(RigFault::Ending);
     }
-    proceed(rig, wire, resend, keepalive, records, fates)
+    proceed(lent)
 }

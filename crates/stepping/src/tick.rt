@@ -1,13 +1,12 @@
-ghost use Rattle.std.specs.Prelude.{◌≡◌, length, Ok, Err, MatchResult};
+ghost use Rattle.std.specs.Prelude.{◌≡◌, Ok, Err, MatchResult};
 ghost use Rattle.protocol.specs.Obeys.{Obeys};
 ghost use Rattle.timer.specs.Frame.{Framed};
 ghost use Rattle.timer.specs.Rules.{advance_rule};
-ghost use Rattle.protocol.specs.State.{State};
 ghost use Rattle.protocol.specs.Rules.{tick_rule};
-ghost use Rattle.engine.specs.Parts.{state_of};
+ghost use Rattle.engine.specs.Loans.{lent_state, Kept};
 
-use channel::record::{Attempt, Channel};
-use engine::rig::Rig;
+use channel::record::Attempt;
+use engine::lent::Lent;
 use link::packet::Packet;
 use timer::store::Store;
 use trace::action::Action;
@@ -24,22 +23,15 @@ fn advance<P, S: Store<P>>(queue: Queue, store: &mut S) -> Result<(), StoreFault
 }
 
 /// Nothing is due: the three clocks go on.
+#[tactic(auto, unfolding(protocol::specs::Rules::tick_rule))]
 pub(crate) fn tick<W: Store<Packet>, R: Store<Attempt>, K: Store<u8>>(
-    rig: &Rig,
-    wire: &mut W,
-    resend: &mut R,
-    keepalive: &mut K,
-    records: &[Channel],
-    fates: &[u16],
+    lent: &mut Lent<W, R, K>,
 ) -> Result<Action, RigFault>
-    requires { length records.now ≡ 64 }
-    ensures obeys { Obeys tick_rule (state_of rig.now fates.now (W.meaning wire.old) (R.meaning resend.old) (K.meaning keepalive.old) records.now) result (state_of rig.now fates.now (W.meaning wire.new) (R.meaning resend.new) (K.meaning keepalive.new) records.now) }
-    ensures wire { Framed W.Store wire.old wire.new }
-    ensures resend { Framed R.Store resend.old resend.new }
-    ensures keepalive { Framed K.Store keepalive.old keepalive.new }
+    ensures obeys { Obeys tick_rule (lent_state W.Store R.Store K.Store lent.old) result (lent_state W.Store R.Store K.Store lent.new) }
+    ensures kept { Kept W.Store R.Store K.Store lent.old lent.new }
 {
-    advance(Queue::Wire, wire)?;
-    advance(Queue::Resend, resend)?;
-    advance(Queue::Keepalive, keepalive)?;
+    advance(Queue::Wire, lent.wire)?;
+    advance(Queue::Resend, lent.resend)?;
+    advance(Queue::Keepalive, lent.keepalive)?;
     Ok(Action::Advanced)
 }

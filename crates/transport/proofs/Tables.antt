@@ -1,6 +1,7 @@
 -- The first 64 records of a table, lent to a call.
-use Rattle.std.proofs.Common.{◌≡◌, ◌<◌, ◌≤◌, true, false, List, length, take, drop, arith, le-ltb, lt-ltb}
+use Rattle.std.proofs.Common.{◌≡◌, ℕ, ◌<◌, ◌≤◌, true, false, List, ◌++◌, length, take, drop, sym, ap, ◌∙◌, arith, le-ltb, lt-ltb}
 use borrow.Rule.Slice.PartMut.{put_mid}
+use Rattle.std.proofs.Math.Seq.{take-append_seam, drop-append_seam}
 use Rattle.std.proofs.lemmas.List.{length-take}
 use Rattle.std.proofs.lemmas.Slice.{take-put_mid, drop-put_mid}
 use Rattle.channel.specs.declared.record.Channel.{Channel}
@@ -21,4 +22,10 @@ part_later t ys h n = drop-put_mid 0 64 t ys 64 (omega arith) (omega arith) n
 pub part_new : (t ys : List Channel) → 64 ≤ length t → length ys ≡ 64 → take 64 (put_mid 0 64 t ys) ≡ ys
 part_new t ys h n = take-put_mid 0 64 t ys 64 (omega arith) (omega arith)
 
-pub ruleset lent = (part_short, part_full, part_length, part_later, part_new)
+pub in_front : (ys zs : List Channel) → length ys ≡ 64 → take 64 (ys ++ zs) ≡ ys
+in_front ys zs n = sym (ap (λ (k : ℕ). take k (ys ++ zs)) n) ∙ take-append_seam ys zs
+
+pub behind : (ys zs : List Channel) → length ys ≡ 64 → drop 64 (ys ++ zs) ≡ zs
+behind ys zs n = sym (ap (λ (k : ℕ). drop k (ys ++ zs)) n) ∙ drop-append_seam ys zs
+
+pub ruleset lent = (part_short, part_full, part_length, part_later, part_new, in_front, behind)

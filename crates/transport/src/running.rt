@@ -10,6 +10,7 @@ use calls::open::open;
 use calls::send::send;
 use calls::take::take;
 use channel::record::{Attempt, Channel};
+use engine::lent::Lent;
 use link::packet::Packet;
 use stepping::step::step;
 use timer::store::Store;
@@ -153,13 +154,15 @@ impl Running {
         if table.len() < CHANNELS {
             return Err(RigFault::Table);
         }
-        step(
-            &mut self.rig,
+        let (records, _) = table.split_at_mut(CHANNELS);
+        let mut lent = Lent {
+            rig: &mut self.rig,
             wire,
             resend,
             keepalive,
-            &mut table[0..CHANNELS],
+            records,
             fates,
-        )
+        };
+        step(&mut lent)
     }
 }
