@@ -37,7 +37,9 @@ pub(crate) fn ask<W: Store<Packet>, R: Store<Attempt>, K: Store<u8>>(
     ensures { result ≡ told (state_of rig.now W.Store R.Store K.Store lent.now) question }
 {
     match question {
-        Question::Status(channel) => Answer::Number(rig.status_number(lent.table, channel) as usize),
+        Question::Status(channel) => Answer::Number(
+            rig.status_number(lent.table, channel) as usize,
+        ),
         Question::Timeout(channel) => Answer::Number(rig.timeout(lent.table, channel) as usize),
         Question::Packets => Answer::Number(rig.packets() as usize),
         Question::Store(Queue::Wire, question) => ask_store(lent.wire, question),

@@ -19,7 +19,7 @@ pub struct Session {
 }
 
 /// Why a session was not played to its end.
-#[derive(Drop)]
+#[derive(Debug, Drop)]
 pub enum Stopped {
     /// The rig could not begin.
     Begin(Refused),

@@ -23,8 +23,18 @@ fn run(rt: &HostRuntime) -> anyhow::Result<()> {
     println!(rt; "tick what ticket deadline owner payload")?;
     print_notes(rt, &notes, |effect| !matches!(effect, Effect::Advanced))?;
     print_end(rt, &notes)?;
-    compare(rt, "heap", &notes, &over::<HeapOrder>(Layers::Bare, memory)?)?;
-    compare(rt, "wheel", &notes, &over::<WheelOrder>(Layers::Bare, memory)?)?;
+    compare(
+        rt,
+        "heap",
+        &notes,
+        &over::<HeapOrder>(Layers::Bare, memory)?,
+    )?;
+    compare(
+        rt,
+        "wheel",
+        &notes,
+        &over::<WheelOrder>(Layers::Bare, memory)?,
+    )?;
     println!(rt; "under a quota of 3 for owner 9")?;
     let limited = over::<ListOrder>(Layers::Quota, memory)?;
     print_notes(
@@ -32,7 +42,12 @@ fn run(rt: &HostRuntime) -> anyhow::Result<()> {
         &limited,
         |effect| matches!(effect, Effect::Refused(_, TimerFault::Limit)),
     )?;
-    compare(rt, "heap", &limited, &over::<HeapOrder>(Layers::Quota, memory)?)?;
+    compare(
+        rt,
+        "heap",
+        &limited,
+        &over::<HeapOrder>(Layers::Quota, memory)?,
+    )?;
     compare(
         rt,
         "wheel",

@@ -5,7 +5,7 @@ use trace::fault::RigFault;
 pub const CHANNELS: usize = 64;
 
 /// A rig that is not running yet: its settings, and how many fates were added to the caller's list.
-#[derive(Drop)]
+#[derive(Debug, Drop)]
 pub struct Draft {
     // the delay of packets without a fate of their own
     pub(crate) delay: u32,
@@ -16,7 +16,7 @@ pub struct Draft {
 }
 
 /// A draft that could not begin.
-#[derive(Drop)]
+#[derive(Debug, Drop)]
 pub struct Refused {
     /// The draft, as it was.
     pub draft: Draft,
