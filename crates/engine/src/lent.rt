@@ -10,7 +10,6 @@ use link::packet::Packet;
 use timer::store::Store;
 use trace::action::Transmission;
 
-// A lifetime for each store: a function that lends all six things for one is not covered by the borrow checker.
 /// What is lent to a step: the rig's numbers, the three stores, a table of just 64 records and the list of fates.
 #[derive(Drop)]
 pub struct Lent<'l, 'w, 'r, 'k, W, R, K> {

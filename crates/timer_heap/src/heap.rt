@@ -19,9 +19,11 @@ pub struct HeapOrder;
 impl<P: Copy> Order<P> for HeapOrder {
     ghost Holds = { λ _ rows l. Ordered rows l.pending };
 
-    ghost LAST = { 4294967295 };
+    ghost last_of = { λ asked. asked };
 
-    const LAST: u32 = u32::MAX;
+    fn last_tick(asked: u32) -> u32 {
+        asked
+    }
 
     fn empty(_count: usize) -> Self {
         HeapOrder

@@ -42,9 +42,11 @@ impl ListOrder {
 impl<P: Copy> Order<P> for ListOrder {
     ghost Holds = { λ s rows _. Sorted rows s.ends };
 
-    ghost LAST = { 4294967295 };
+    ghost last_of = { λ asked. asked };
 
-    const LAST: u32 = u32::MAX;
+    fn last_tick(asked: u32) -> u32 {
+        asked
+    }
 
     fn empty(count: usize) -> Self {
         let sentinel = count as u16;

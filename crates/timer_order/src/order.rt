@@ -14,16 +14,17 @@ pub trait Order<P: Copy> {
     // what the order keeps true of the rows and the ledger, beside what every store keeps true of them
     ghost Holds: { Self → List (rows_type.Row P) → ledgers.Ledger → Type 0 };
 
-    // the last tick that a store in this order can reach
-    ghost LAST: { ℕ };
+    // the last tick of a store that was asked to run to a tick
+    ghost last_of: { ℕ → ℕ };
 
-    /// The last tick that a store in this order can reach.
-    const LAST: u32;
+    /// The last tick of a store in this order that was asked to run to this one.
+    fn last_tick(asked: u32) -> u32
+        ensures { result ≡ last_of asked };
 
     /// The order of so many vacant rows.
     fn empty(count: usize) -> Self
         requires { count ≤ 4096 }
-        ensures { (rows : List (rows_type.Row P)) (l : ledgers.Ledger) → length rows ≡ count → ((i : ℕ) → slice_index (tickets rows) i ≡ 0) → Kept rows l → l.last ≤ LAST → Holds result rows l };
+        ensures { (rows : List (rows_type.Row P)) (l : ledgers.Ledger) (asked : ℕ) → length rows ≡ count → ((i : ℕ) → slice_index (tickets rows) i ≡ 0) → Kept rows l → l.last ≡ last_of asked → Holds result rows l };
 
     /// Adds an entry that a check does not refuse, and answers its ticket.
     fn insert(

@@ -13,9 +13,9 @@ impl<'a, P: Copy, O: Order<P>> RowStore<'a, P, O> {
     ghost use Rattle.std.specs.Prelude.{◌≡◌, min, [], ◌∷◌, length, replicate};
     ghost use Rattle.timer_rows.specs.Rows.{used, unused, meant};
 
-    /// A store with nothing pending over the rows, whatever they hold; a last tick above the order's counts as that one, and a first tick above the last as the last.
+    /// A store with nothing pending over the rows, whatever they hold; its last tick is the order's for the one that is asked for, and a first tick above it counts as the last.
     pub fn new(rows: &'a mut [Row<P>], first: u32, last: u32) -> Self
-        ensures meaning { meant (used result.rows.now) result.ledger ≡ record { now = min first (min last O.LAST); last = min last O.LAST; capacity = length (used rows.old); limits = replicate 64 (length (used rows.old)); given = 0; pending = [] } }
+        ensures meaning { meant (used result.rows.now) result.ledger ≡ record { now = min first (O.last_of last); last = O.last_of last; capacity = length (used rows.old); limits = replicate 64 (length (used rows.old)); given = 0; pending = [] } }
         ensures unused { unused result.rows.now ≡ unused rows.old }
         ensures lender { result.rows.ghost_name ≡ rows.entry.ghost_name }
     {
@@ -23,7 +23,7 @@ impl<'a, P: Copy, O: Order<P>> RowStore<'a, P, O> {
         clear(&mut rows[0..n]);
         RowStore {
             rows,
-            ledger: Ledger::new(first, last.min(O::LAST)),
+            ledger: Ledger::new(first, O::last_tick(last)),
             order: O::empty(n),
         }
     }

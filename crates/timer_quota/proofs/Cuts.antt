@@ -25,13 +25,13 @@ module _ {P : Type 0} (m : Meaning P) (ns : List ℕ) where
   unfolding check_rule
   check_below d o f h = let e = cut_at m.limits ns o in grind (arith, nat_tests)
 
-  check_own : (d o : ℕ) → None ≡ check_rule m d o → then_some (nat_le (limit_rule (limited m ns) o) (count_rule m o)) Limit ≡ check_rule (limited m ns) d o
+  check_own : (d o : ℕ) → None ≡ check_rule m d o → then_some (nat_le (if nat_lt o 64 then get_or ns o 0 else 0) (count_rule m o)) Limit ≡ check_rule (limited m ns) d o
   unfolding check_rule
   check_own d o h = let e = cut_at m.limits ns o in grind (arith, nat_tests)
 
-  pub check_cut : (d o : ℕ) → option_or (check_rule m d o) (then_some (nat_le (limit_rule (limited m ns) o) (count_rule m o)) Limit) ≡ check_rule (limited m ns) d o
+  pub check_cut : (d o : ℕ) → option_or (check_rule m d o) (then_some (nat_le (if nat_lt o 64 then get_or ns o 0 else 0) (count_rule m o)) Limit) ≡ check_rule (limited m ns) d o
   check_cut d o =
-      elim (check_rule m d o) as (λ c. c ≡ check_rule m d o → option_or c (then_some (nat_le (limit_rule (limited m ns) o) (count_rule m o)) Limit) ≡ check_rule (limited m ns) d o) [
+      elim (check_rule m d o) as (λ c. c ≡ check_rule m d o → option_or c (then_some (nat_le (if nat_lt o 64 then get_or ns o 0 else 0) (count_rule m o)) Limit) ≡ check_rule (limited m ns) d o) [
         | None ↦ λ h. check_own d o h
         | Some f ↦ λ h. check_below d o f h
       ] refl

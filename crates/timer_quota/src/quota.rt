@@ -17,6 +17,7 @@ impl<'s, S> Quota<'s, S> {
     {
         Quota { inner, numbers }
     }
+
     // The owner's number; 0 for an owner above 63.
     pub(crate) fn number(&self, owner: u8) -> usize
         ensures { result ≡ (if nat_lt owner 64 then slice_index self.now.numbers owner else 0) }

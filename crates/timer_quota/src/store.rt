@@ -50,8 +50,8 @@ impl<'s, P: Copy, S: Store<P>> Store<P> for Quota<'s, S> {
     }
 
     fn check(&self, deadline: u32, owner: u8) -> Option<TimerFault> {
-        let at_limit = self.count(owner) >= self.limit(owner);
-        let own = at_limit.then_some(TimerFault::Limit);
+        let at_number = self.count(owner) >= self.number(owner);
+        let own = at_number.then_some(TimerFault::Limit);
         self.inner.check(deadline, owner).or(own)
     }
 

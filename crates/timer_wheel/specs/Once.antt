@@ -1,6 +1,6 @@
 -- That the entries lie in their slots can hold in one way only.
 use Rattle.std.specs.Prelude.{List, length}
-use Rattle.std.specs.Coded.{le_prop}
+use Rattle.std.proofs.Math.Nat.{ℕ_set}
 use Rattle.timer_rows.specs.declared.ends.Ends.{Ends}
 use Rattle.timer_rows.specs.declared.ledger.Ledger.{Ledger}
 use Rattle.timer_rows.specs.declared.row.Row.{Row}
@@ -12,5 +12,5 @@ pub placed_once : {P : Type 0} (rows : List (Row P)) (l : Ledger) (es : List End
 placed_once rows l es p q i =
     record {
       slots = linked_prop (ons rows es) (backs rows es) (homes_by (home l.now) all_slots rows) (keys_by key rows) (length rows) 256 p.slots q.slots i;
-      last = le_prop p.last q.last i;
+      last = ℕ_set l.last 16777215 p.last q.last i;
     }

@@ -1,5 +1,5 @@
 -- The slots of a wheel: each is a doubly linked list of the pending entries whose place it is, in the order of their tickets.
-use Rattle.std.specs.Prelude.{ℕ, ◌≤◌, if◌then◌else◌, List, ◌==◌}
+use Rattle.std.specs.Prelude.{◌≡◌, ℕ, if◌then◌else◌, List, ◌==◌}
 use Rattle.std.specs.List.{range_with_len}
 use Rattle.timer.specs.Meaning.{Entry}
 use Rattle.timer_rows.specs.declared.row.Row.{Row}
@@ -26,4 +26,4 @@ Slotted tick rows es = Slots (home tick) all_slots key rows es 256
 -- what the wheel keeps true
 pub record Placed {P : Type 0} (rows : List (Row P)) (l : Ledger) (es : List Ends) : Type 0 where
   pub slots : Slotted l.now rows es
-  pub last : l.last ≤ 16777215
+  pub last : l.last ≡ 16777215

@@ -13,6 +13,9 @@ use timer_rows::links::{unlink, unlink_all};
 use timer_rows::row::Row;
 use timer_rows::rows::vacant;
 
+// The last tick of every wheel: four digits of 63.
+const LAST: u32 = 16_777_215;
+
 /// A timer store that keeps its entries in a hierarchical timing wheel of four levels of 64 slots, over rows that are lent to it.
 pub type Wheel<'a, P> = RowStore<'a, P, WheelOrder>;
 
@@ -26,10 +29,11 @@ pub struct WheelOrder {
 impl<P: Copy> Order<P> for WheelOrder {
     ghost Holds = { λ s rows l. Placed rows l s.ends };
 
-    ghost LAST = { 16777215 };
+    ghost last_of = { λ _. 16777215 };
 
-    // four digits of 63
-    const LAST: u32 = 16_777_215;
+    fn last_tick(_asked: u32) -> u32 {
+        LAST
+    }
 
     fn empty(count: usize) -> Self {
         let mut ends = [Ends { head: 0, tail: 0 }; 256];

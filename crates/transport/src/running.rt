@@ -154,7 +154,6 @@ impl Running {
         if table.len() < CHANNELS {
             return Err(RigFault::Table);
         }
-        // of a part lent by its indices, in a struct, only the length would be known after the step
         let (records, _) = table.split_at_mut(CHANNELS);
         let mut lent = Lent {
             rig: &mut self.rig,

@@ -24,5 +24,5 @@ none_ordered rows vacant =
 
 pub returns : goal.returns
 returns g c =
-    λ rows l e vacant k w.
+    λ rows l asked e vacant k w.
     subst (λ n. Ordered rows n) (sym (k.sized ∙ ap length (entries_none rows vacant))) (none_ordered rows vacant)

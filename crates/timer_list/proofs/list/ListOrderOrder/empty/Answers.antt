@@ -26,4 +26,4 @@ empty rows n e vacant =
     linked_none rows es (homes rows) (keys rows) 1 refl long (length-map rows (λ r. key (entry_of r))) none sentinel blank
 
 pub returns : goal.returns
-returns g c = λ rows l e vacant k w. empty rows c.args.count e vacant
+returns g c = λ rows l asked e vacant k w. empty rows c.args.count e vacant

@@ -24,5 +24,5 @@ empty rows es n t long vacant le blank =
 pub returns : goal.returns
 returns g c =
     let le : length c.unlink_all.new.ends ≡ 256 = c.unlink_all.auto.ends in
-    λ rows l e vacant k w.
+    λ rows l asked e vacant k w.
     record { slots = empty rows _ c.args.count l.now e vacant le (λ s b. c.unlink_all.ensures s (omega (arith, le))); last = w }

@@ -54,7 +54,7 @@ returns g c =
       kept = same_kept mid c.append.new.rows c.enter-ticket.new.ledger c.append.ensures.contents c.enter-ticket.ensures.kept;
       held = record {
         slots = subst (λ t. Slotted t c.append.new.rows c.append.new.ends) (sym (ap (λ m. m.now) m)) s;
-        last = omega (arith, ap (λ m. m.last) m, c.requires.held.last);
+        last = ap (λ m. m.last) m ∙ c.requires.held.last;
       };
       meant = same_meant mid c.append.new.rows c.enter-ticket.new.ledger c.append.ensures.contents ∙ m;
     }

@@ -33,7 +33,7 @@ returns g c =
       kept = c.leave.ensures.kept;
       held = record {
         slots = subst (λ t. Slotted t c.leave.new.rows c.unlink.new.ends) (sym (ap (λ m. m.now) c.leave.ensures.meant)) (placed_leave rows c.args.ledger.now c.args.self.now.ends c.requires.kept c.requires.held c.args.x mid c.leave.new.rows c.unlink.new.ends c.requires.live.0 c.requires.live.1 same c.unlink.ensures.ons c.unlink.ensures.backs c.leave.ensures.rows);
-        last = omega (arith, ap (λ m. m.last) c.leave.ensures.meant, c.requires.held.last);
+        last = ap (λ m. m.last) c.leave.ensures.meant ∙ c.requires.held.last;
       };
       meant =
           c.leave.ensures.meant

@@ -1,4 +1,4 @@
-use Rattle.std.proofs.Common.{◌≡◌, ◌+◌, ◌-◌, ap, subst, arith}
+use Rattle.std.proofs.Common.{◌≡◌, ◌+◌, ◌-◌, ap, ◌∙◌, subst, arith}
 use Rattle.timer_wheel.specs.Placed.{Slotted}
 use Rattle.timer_wheel.proofs.Entering.{waiting}
 use Rattle.timer_wheel.proofs.wheel.WheelOrderOrder.turn.Goals as goal
@@ -25,7 +25,7 @@ returns g c =
     record {
       held = record {
         slots = subst (λ t. Slotted t c.cascade.new.rows c.cascade.new.ends) e c.cascade.ensures.slots;
-        last = omega (arith, b.2.last);
+        last = m ∙ b.2.last;
       };
       contents = c.cascade.ensures.contents;
     }
