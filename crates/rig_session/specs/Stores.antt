@@ -2,10 +2,10 @@
 use Rattle.std.specs.Prelude.{ℕ, List, [], replicate, slice_set}
 use Rattle.timer.specs.Meaning.{Meaning}
 
--- a store of so many rows at tick 0 that nothing was done with
-abbrev pub idle : {P : Type 0} → ℕ → Meaning P
-idle rows =
-    record { now = 0; last = 16777215; capacity = rows; limits = replicate 64 rows; given = 0; pending = [] }
+-- a store with a last tick and so many rows, at tick 0, that nothing was done with
+abbrev pub idle : {P : Type 0} → ℕ → ℕ → Meaning P
+idle last rows =
+    record { now = 0; last = last; capacity = rows; limits = replicate 64 rows; given = 0; pending = [] }
 
 -- the list of fates with the session's two in front
 abbrev pub with_fates : List ℕ → List ℕ

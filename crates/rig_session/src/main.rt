@@ -2,6 +2,7 @@
 
 mod play;
 mod script;
+mod stores;
 
 use std::io::Write;
 

@@ -1,73 +1,43 @@
 ghost use Rattle.std.specs.Prelude.{◌≡◌, IfOk};
 ghost use Rattle.replay.specs.Alike.{Both};
-ghost use Rattle.rig_session.specs.Stores.{idle};
 
 use crate::script;
+use crate::stores::{Rows, Stores};
 use channel::record::{Attempt, Channel};
 use link::packet::Packet;
 use replay::lent::Lent;
 use replay::pair::{Pair, run_pair};
 use std::alloc::Global;
 use timer::store::Store;
-use timer_list::list::SortedList;
+use timer_list::list::ListOrder;
 use timer_quota::quota::Quota;
-use timer_rows::row::Row;
-use timer_wheel::wheel::Wheel;
-use trace::action::Segment;
-
-const WIRE_ROWS: usize = 512;
-
-const RESEND_ROWS: usize = 256;
-
-const KEEPALIVE_ROWS: usize = 64;
-
-// The last tick of the stores, which is the last that a wheel can reach.
-const LAST: u32 = 16_777_215;
-
-const PACKET: Packet = Packet::Keepalive { sequence: 0 };
-
-const ATTEMPT: Attempt = Attempt {
-    segment: Segment {
-        sequence: 0,
-        word: 0,
-    },
-    tries: 0,
-    sent: 0,
-};
+use timer_wheel::wheel::WheelOrder;
 
 /// The session over wheels, and beside it over lists of the same sizes.
 pub fn over_wheels_and_lists(heap: Global) -> anyhow::Result<Pair>
     ensures { IfOk result (λ p. Both p.first p.second) }
 {
-    let mut wire_rows = [Row::vacant(PACKET); WIRE_ROWS];
-    let mut resend_rows = [Row::vacant(ATTEMPT); RESEND_ROWS];
-    let mut keepalive_rows = [Row::vacant(0); KEEPALIVE_ROWS];
-    let mut wire = Wheel::new(&mut wire_rows, 0, LAST);
-    let mut resend = Wheel::new(&mut resend_rows, 0, LAST);
-    let mut keepalive = Wheel::new(&mut keepalive_rows, 0, LAST);
-    beside_lists(heap, &mut wire, &mut resend, &mut keepalive)
-}
-
-// The same over any stores, beside lists.
-fn beside_lists<W: Store<Packet>, R: Store<Attempt>, K: Store<u8>>(
-    heap: Global,
-    wire: &mut W,
-    resend: &mut R,
-    keepalive: &mut K,
-) -> anyhow::Result<Pair>
-    ensures { IfOk result (λ p. W.meaning wire.old ≡ idle 512 → R.meaning resend.old ≡ idle 256 → K.meaning keepalive.old ≡ idle 64 → Both p.first p.second) }
-{
-    let mut wire_rows = [Row::vacant(PACKET); WIRE_ROWS];
-    let mut resend_rows = [Row::vacant(ATTEMPT); RESEND_ROWS];
-    let mut keepalive_rows = [Row::vacant(0); KEEPALIVE_ROWS];
-    let mut other_wire = SortedList::new(&mut wire_rows, 0, LAST);
-    let mut other_resend = SortedList::new(&mut resend_rows, 0, LAST);
-    let mut other_keepalive = SortedList::new(&mut keepalive_rows, 0, LAST);
+    let mut rows = Rows::vacant();
+    let mut other_rows = Rows::vacant();
+    let Stores {
+        mut wire,
+        mut resend,
+        mut keepalive,
+    } = Stores::<WheelOrder>::over(&mut rows.wire, &mut rows.resend, &mut rows.keepalive);
+    let Stores {
+        wire: mut other_wire,
+        resend: mut other_resend,
+        keepalive: mut other_keepalive,
+    } = Stores::<ListOrder>::over(
+        &mut other_rows.wire,
+        &mut other_rows.resend,
+        &mut other_rows.keepalive,
+    );
     play(
         heap,
-        wire,
-        resend,
-        keepalive,
+        &mut wire,
+        &mut resend,
+        &mut keepalive,
         &mut other_wire,
         &mut other_resend,
         &mut other_keepalive,
