@@ -31,26 +31,28 @@ fn used<P, S: Store<P>>(store: &S) -> bool
     store.pending() != 0 || store.given() != 0
 }
 
-// Whether a store differs from the wire in its tick or its last tick.
-fn any_apart<W: Store<Packet>, R: Store<Attempt>, K: Store<u8>>(
-    wire: &W,
-    resend: &R,
-    keepalive: &K,
-) -> bool
-    ensures { result ≡ (apart (W.meaning wire.now) (R.meaning resend.now) || apart (W.meaning wire.now) (K.meaning keepalive.now)) }
-{
-    apart(wire, resend) || apart(wire, keepalive)
+// The stores that a draft is to begin with.
+#[derive(Drop)]
+struct Stores<'a, W, R, K> {
+    wire: &'a W,
+    resend: &'a R,
+    keepalive: &'a K,
 }
 
-// Whether one of the stores has pending entries or gave tickets.
-fn any_used<W: Store<Packet>, R: Store<Attempt>, K: Store<u8>>(
-    wire: &W,
-    resend: &R,
-    keepalive: &K,
-) -> bool
-    ensures { result ≡ (used (W.meaning wire.now) || (used (R.meaning resend.now) || used (K.meaning keepalive.now))) }
-{
-    used(wire) || used(resend) || used(keepalive)
+impl<W: Store<Packet>, R: Store<Attempt>, K: Store<u8>> Stores<'_, W, R, K> {
+    // Whether a store differs from the wire in its tick or its last tick.
+    fn apart(&self) -> bool
+        ensures { result ≡ (apart (W.meaning self.now.wire.now) (R.meaning self.now.resend.now) || apart (W.meaning self.now.wire.now) (K.meaning self.now.keepalive.now)) }
+    {
+        apart(self.wire, self.resend) || apart(self.wire, self.keepalive)
+    }
+
+    // Whether one of the stores has pending entries or gave tickets.
+    fn used(&self) -> bool
+        ensures { result ≡ (used (W.meaning self.now.wire.now) || (used (R.meaning self.now.resend.now) || used (K.meaning self.now.keepalive.now))) }
+    {
+        used(self.wire) || used(self.resend) || used(self.keepalive)
+    }
 }
 
 // Whether the last tick is too near.
@@ -98,23 +100,21 @@ impl Draft {
     #[tactic(auto, unfolding(protocol::specs::Begin::begin_check))]
     fn check<W: Store<Packet>, R: Store<Attempt>, K: Store<u8>>(
         &self,
-        wire: &W,
-        resend: &R,
-        keepalive: &K,
+        stores: &Stores<'_, W, R, K>,
         records: usize,
     ) -> Result<u16, RigFault>
-        ensures value { result ≡ unless_refused (begin_check self.now.delay self.now.interval (W.meaning wire.now) (R.meaning resend.now) (K.meaning keepalive.now) records) self.now.delay }
+        ensures value { result ≡ unless_refused (begin_check self.now.delay self.now.interval (W.meaning stores.now.wire.now) (R.meaning stores.now.resend.now) (K.meaning stores.now.keepalive.now) records) self.now.delay }
         ensures room { OnOk result (64 ≤ records) }
-        ensures fits { OnOk result ((W.meaning wire.now).last ≤ 4294967295) }
+        ensures fits { OnOk result ((W.meaning stores.now.wire.now).last ≤ 4294967295) }
     {
         let delay = self.setting().ok_or(RigFault::Setting)?;
-        if any_apart(wire, resend, keepalive) {
+        if stores.apart() {
             return Err(RigFault::Clocks);
         }
-        if any_used(wire, resend, keepalive) {
+        if stores.used() {
             return Err(RigFault::Used);
         }
-        if brief(wire) {
+        if brief(stores.wire) {
             return Err(RigFault::Span);
         }
         if records < CHANNELS {
@@ -134,7 +134,12 @@ impl Draft {
         ensures begins { Begins (begin_check self.delay self.interval (W.meaning wire.now) (R.meaning resend.now) (K.meaning keepalive.now) (length table.old)) self table.old result table.new }
         ensures fits { OnOk result ((W.meaning wire.now).last ≤ 4294967295) }
     {
-        match self.check(wire, resend, keepalive, table.len()) {
+        let stores = Stores {
+            wire,
+            resend,
+            keepalive,
+        };
+        match self.check(&stores, table.len()) {
             Err(fault) => Err(Refused { draft: self, fault }),
             Ok(delay) => {
                 table[0..CHANNELS].fill(Channel::unused());
