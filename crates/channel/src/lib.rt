@@ -1,3 +1,4 @@
 #![tactic(auto)]
 
+pub mod number;
 pub mod record;
