@@ -5,6 +5,7 @@ ghost use Rattle.protocol.specs.State.{State};
 ghost use Rattle.engine.specs.Parts.{state_of};
 ghost use Rattle.calls.specs.Bodies.{close_body};
 
+use crate::record::open_record;
 use channel::record::{Attempt, Channel};
 use engine::cancel::{cancel, cancel_all};
 use engine::rig::Rig;
@@ -28,18 +29,11 @@ pub fn close<W: Store<Packet>, R: Store<Attempt>, K: Store<u8>>(
     ensures resend { Framed R.Store resend.old resend.new }
     ensures keepalive { Framed K.Store keepalive.old keepalive.new }
 {
-    if channel > 63 {
-        return Err(RigFault::Channel);
-    }
-    let index = channel as usize;
-    let record = records[index].read();
-    if !record.is_open() {
-        return Err(RigFault::State);
-    }
+    let (channel, record) = open_record(records, channel)?;
     cancel_all(resend, record.sending);
     let _ = cancel(keepalive, record.keepalive);
-    records[index] = record.closed();
+    records[channel.index()] = record.closed();
     Ok(Action::Closed {
-        channel: channel as u8,
+        channel: channel.number(),
     })
 }

@@ -4,5 +4,6 @@
 
 pub mod close;
 pub mod open;
+mod record;
 pub mod send;
 pub mod take;

@@ -5,6 +5,7 @@ ghost use Rattle.protocol.specs.State.{State};
 ghost use Rattle.engine.specs.Parts.{state_of};
 ghost use Rattle.calls.specs.Bodies.{open_body};
 
+use channel::number::ChannelNumber;
 use channel::record::{Attempt, Channel};
 use engine::rig::Rig;
 use link::packet::Packet;
@@ -27,19 +28,16 @@ pub fn open<W: Store<Packet>, R: Store<Attempt>, K: Store<u8>>(
     ensures obeys { Obeys (λ s. open_body s channel) (state_of rig.now fates.now (W.meaning wire.now) (R.meaning resend.now) (K.meaning keepalive.old) records.old) result (state_of rig.now fates.now (W.meaning wire.now) (R.meaning resend.now) (K.meaning keepalive.new) records.new) }
     ensures keepalive { Framed K.Store keepalive.old keepalive.new }
 {
-    if channel > 63 {
-        return Err(RigFault::Channel);
-    }
-    let index = channel as usize;
-    if !records[index].read().is_unused() {
+    let channel = ChannelNumber::try_from(channel)?;
+    if !records[channel.index()].read().is_unused() {
         return Err(RigFault::State);
     }
     if rig.low(wire, resend, keepalive) {
         return Err(RigFault::Spent);
     }
-    let owner = channel as u8;
+    let owner = channel.number();
     let deadline = wire.now().saturating_add(rig.interval);
     let ticket = Queue::Keepalive.named(keepalive.start(deadline, owner, owner))?;
-    records[index] = Channel::opened(ticket);
+    records[channel.index()] = Channel::opened(ticket);
     Ok(Action::Opened { channel: owner })
 }

@@ -1,4 +1,4 @@
-ghost use Rattle.std.specs.Prelude.{◌≡◌, ◌<◌, length};
+ghost use Rattle.std.specs.Prelude.{◌≡◌, length};
 ghost use Rattle.protocol.specs.Obeys.{Obeys};
 ghost use Rattle.timer.specs.Frame.{Framed};
 ghost use Rattle.protocol.specs.State.{State, record_of};
@@ -6,6 +6,8 @@ ghost use Rattle.protocol.specs.Rules.{send_start};
 ghost use Rattle.engine.specs.Parts.{state_of};
 ghost use Rattle.calls.specs.Bodies.{send_body};
 
+use crate::record::open_record;
+use channel::number::ChannelNumber;
 use channel::record::{Attempt, Channel};
 use engine::rig::Rig;
 use estimator::wait::wait;
@@ -31,14 +33,7 @@ pub fn send<W: Store<Packet>, R: Store<Attempt>, K: Store<u8>>(
     ensures wire { Framed W.Store wire.old wire.new }
     ensures resend { Framed R.Store resend.old resend.new }
 {
-    if channel > 63 {
-        return Err(RigFault::Channel);
-    }
-    let index = channel as usize;
-    let record = records[index].read();
-    if !record.is_open() {
-        return Err(RigFault::State);
-    }
+    let (channel, record) = open_record(records, channel)?;
     if rig.low(wire, resend, keepalive) || record.next == u32::MAX {
         return Err(RigFault::Spent);
     }
@@ -46,15 +41,7 @@ pub fn send<W: Store<Packet>, R: Store<Attempt>, K: Store<u8>>(
         return Err(RigFault::Window);
     }
     launch(
-        rig,
-        wire,
-        resend,
-        keepalive,
-        records,
-        fates,
-        channel as u8,
-        record,
-        word,
+        rig, wire, resend, keepalive, records, fates, channel, record, word,
     )
 }
 
@@ -66,15 +53,16 @@ fn launch<W: Store<Packet>, R: Store<Attempt>, K: Store<u8>>(
     keepalive: &K,
     records: &mut [Channel],
     fates: &[u16],
-    owner: u8,
+    channel: ChannelNumber,
     record: Channel,
     word: u32,
 ) -> Result<Action, RigFault>
-    requires { let s : State = state_of rig.old fates.now (W.meaning wire.old) (R.meaning resend.old) (K.meaning keepalive.now) records.old in (length records.old ≡ 64) × (owner < 64) × («record» ≡ record_of s owner) }
-    ensures obeys { Obeys (λ s. send_start s owner word) (state_of rig.old fates.now (W.meaning wire.old) (R.meaning resend.old) (K.meaning keepalive.now) records.old) result (state_of rig.new fates.now (W.meaning wire.new) (R.meaning resend.new) (K.meaning keepalive.now) records.new) }
+    requires { let s : State = state_of rig.old fates.now (W.meaning wire.old) (R.meaning resend.old) (K.meaning keepalive.now) records.old in (length records.old ≡ 64) × («record» ≡ record_of s channel) }
+    ensures obeys { Obeys (λ s. send_start s channel word) (state_of rig.old fates.now (W.meaning wire.old) (R.meaning resend.old) (K.meaning keepalive.now) records.old) result (state_of rig.new fates.now (W.meaning wire.new) (R.meaning resend.new) (K.meaning keepalive.now) records.new) }
     ensures wire { Framed W.Store wire.old wire.new }
     ensures resend { Framed R.Store resend.old resend.new }
 {
+    let owner = channel.number();
     let tick = wire.now();
     let segment = Segment {
         sequence: record.next,
@@ -84,7 +72,7 @@ fn launch<W: Store<Packet>, R: Store<Attempt>, K: Store<u8>>(
     let attempt = Attempt::first(segment, tick);
     let ticket = Queue::Resend.named(resend.start(deadline, owner, attempt))?;
     let transmission = rig.transmit(wire, fates, owner, Packet::Data(segment));
-    records[owner as usize] = record.sent(ticket);
+    records[channel.index()] = record.sent(ticket);
     Ok(Action::Sent {
         channel: owner,
         segment,

@@ -4,6 +4,7 @@ ghost use Rattle.protocol.specs.State.{State};
 ghost use Rattle.engine.specs.Parts.{state_of};
 ghost use Rattle.calls.specs.Bodies.{take_body};
 
+use crate::record::open_record;
 use channel::record::{Attempt, Channel};
 use engine::rig::Rig;
 use link::packet::Packet;
@@ -24,17 +25,10 @@ pub fn take<W: Store<Packet>, R: Store<Attempt>, K: Store<u8>>(
     requires { length records.old ≡ 64 }
     ensures obeys { Obeys (λ s. take_body s channel) (state_of rig.now fates.now (W.meaning wire.now) (R.meaning resend.now) (K.meaning keepalive.now) records.old) result (state_of rig.now fates.now (W.meaning wire.now) (R.meaning resend.now) (K.meaning keepalive.now) records.new) }
 {
-    if channel > 63 {
-        return Err(RigFault::Channel);
-    }
-    let index = channel as usize;
-    let record = records[index].read();
-    if !record.is_open() {
-        return Err(RigFault::State);
-    }
-    records[index] = record.without_front();
+    let (channel, record) = open_record(records, channel)?;
+    records[channel.index()] = record.without_front();
     Ok(Action::Taken {
-        channel: channel as u8,
+        channel: channel.number(),
         segment: record.front(),
     })
 }

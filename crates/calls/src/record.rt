@@ -1,0 +1,26 @@
+ghost use Rattle.std.specs.Prelude.{◌≡◌, Ok, Err, if◌then◌else◌, length, slice_index_or};
+ghost use Rattle.trace.specs.declared.fault.RigFault.TheVariants as fault;
+ghost use Rattle.channel.specs.Record.{as_read, is_open};
+ghost use Rattle.protocol.specs.State.{blank};
+ghost use Rattle.protocol.specs.Rules.{no_channel};
+
+use channel::number::ChannelNumber;
+use channel::record::Channel;
+use trace::fault::RigFault;
+
+/// The channel with this number and its record, if it exists and is open.
+pub(crate) fn open_record(
+    records: &[Channel],
+    channel: u32,
+) -> Result<(ChannelNumber, Channel), RigFault>
+    requires { length records.now ≡ 64 }
+    ensures { let found : Channel = as_read (slice_index_or records.now channel blank) in result ≡ (if no_channel channel then Err fault.Channel else if is_open found then Ok (channel, found) else Err fault.State) }
+{
+    let channel = ChannelNumber::try_from(channel)?;
+    let record = records[channel.index()].read();
+    if record.is_open() {
+        Ok((channel, record))
+    } else {
+        Err(RigFault::State)
+    }
+}
