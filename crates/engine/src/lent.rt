@@ -1,10 +1,10 @@
-ghost use Rattle.std.specs.Prelude.{◌≡◌, ◌<◌, length};
+ghost use Rattle.std.specs.Prelude.{◌≡◌, Some, None, if◌then◌else◌, length};
 ghost use Rattle.protocol.specs.State.{record_of, put, low};
 ghost use Rattle.protocol.specs.Link.{transmit};
 ghost use Rattle.protocol.specs.Rules.{live};
 
-use crate::live::live;
 use crate::rig::Rig;
+use channel::number::ChannelNumber;
 use channel::record::{Attempt, Channel};
 use link::packet::Packet;
 use timer::store::Store;
@@ -31,11 +31,12 @@ pub struct Lent<'l, 'w, 'r, 'k, W, R, K> {
 impl<W: Store<Packet>, R: Store<Attempt>, K: Store<u8>> Lent<'_, '_, '_, '_, W, R, K> {
     ghost use Rattle.engine.specs.Loans.{lent_state, Kept};
 
-    /// Whether the owner of an entry is an open channel.
-    pub fn live(&self, owner: u8) -> bool
-        ensures { result ≡ live (lent_state W.Store R.Store K.Store self.now) owner }
+    /// The channel that owns an entry, if it exists and is open.
+    pub fn open_channel(&self, owner: u8) -> Option<ChannelNumber>
+        ensures { result ≡ (if live (lent_state W.Store R.Store K.Store self.now) owner then Some owner else None) }
     {
-        live(self.records, owner)
+        let channel = ChannelNumber::try_from(u32::from(owner)).ok()?;
+        self.record_of(channel).is_open().then_some(channel)
     }
 
     /// Whether tickets or packet numbers run out.
@@ -46,20 +47,18 @@ impl<W: Store<Packet>, R: Store<Attempt>, K: Store<u8>> Lent<'_, '_, '_, '_, W, 
     }
 
     /// The record of a channel.
-    pub fn record_of(&self, owner: u8) -> Channel
-        requires { owner < 64 }
-        ensures { result ≡ record_of (lent_state W.Store R.Store K.Store self.now) owner }
+    pub fn record_of(&self, channel: ChannelNumber) -> Channel
+        ensures { result ≡ record_of (lent_state W.Store R.Store K.Store self.now) channel }
     {
-        self.records[owner as usize].read()
+        self.records[channel.index()].read()
     }
 
     /// Replaces the record of a channel.
-    pub fn put(&mut self, owner: u8, channel: Channel)
-        requires { owner < 64 }
-        ensures after { lent_state W.Store R.Store K.Store self.new ≡ put (lent_state W.Store R.Store K.Store self.old) owner channel }
+    pub fn put(&mut self, channel: ChannelNumber, record: Channel)
+        ensures after { lent_state W.Store R.Store K.Store self.new ≡ put (lent_state W.Store R.Store K.Store self.old) channel «record» }
         ensures kept { Kept W.Store R.Store K.Store self.old self.new }
     {
-        self.records[owner as usize] = channel;
+        self.records[channel.index()] = record;
     }
 
     /// Sends a packet on a channel.

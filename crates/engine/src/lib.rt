@@ -5,6 +5,5 @@
 pub mod cancel;
 pub mod dispatch;
 pub mod lent;
-pub mod live;
 pub mod rig;
 pub mod worn;

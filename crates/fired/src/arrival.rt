@@ -41,12 +41,12 @@ pub fn arrival<W: Store<Packet>, R: Store<Attempt>, K: Store<u8>>(
     ensures kept { Kept W.Store R.Store K.Store lent.old lent.new }
 {
     let owner = entry.owner;
-    if !lent.live(owner) {
+    let Some(channel) = lent.open_channel(owner) else {
         return told(owner, entry.payload);
-    }
+    };
     match entry.payload {
-        Packet::Data(segment) => data(lent, owner, segment),
-        Packet::Acknowledgement { sequence } => acknowledgement(lent, owner, sequence),
+        Packet::Data(segment) => data(lent, channel, segment),
+        Packet::Acknowledgement { sequence } => acknowledgement(lent, channel, sequence),
         Packet::Keepalive { sequence } => Action::KeepaliveArrived {
             channel: owner,
             sequence,

@@ -1,8 +1,8 @@
-ghost use Rattle.std.specs.Prelude.{◌<◌};
 ghost use Rattle.protocol.specs.Obeys.{Obeys};
 ghost use Rattle.protocol.specs.Rules.{resend_rule, resend as resend_entry, beat_rule, beat as beat_entry};
 ghost use Rattle.engine.specs.Loans.{lent_state, Kept};
 
+use channel::number::ChannelNumber;
 use channel::record::Attempt;
 use engine::lent::Lent;
 use estimator::wait::wait;
@@ -17,21 +17,21 @@ use trace::queue::Queue;
 #[tactic(auto, unfolding(protocol::specs::Rules::resend_rule))]
 fn resend_open<W: Store<Packet>, R: Store<Attempt>, K: Store<u8>>(
     lent: &mut Lent<W, R, K>,
-    owner: u8,
+    channel: ChannelNumber,
     attempt: Attempt,
 ) -> Result<Action, RigFault>
-    requires { owner < 64 }
-    ensures obeys { Obeys (λ s. resend_rule s owner attempt) (lent_state W.Store R.Store K.Store lent.old) result (lent_state W.Store R.Store K.Store lent.new) }
+    ensures obeys { Obeys (λ s. resend_rule s channel attempt) (lent_state W.Store R.Store K.Store lent.old) result (lent_state W.Store R.Store K.Store lent.new) }
     ensures kept { Kept W.Store R.Store K.Store lent.old lent.new }
 {
-    let record = lent.record_of(owner);
+    let owner = channel.number();
+    let record = lent.record_of(channel);
     let attempt = attempt.again();
     let segment = attempt.segment;
     let pause = wait(record.estimator.timeout, attempt.tries);
     let deadline = lent.wire.now().saturating_add(pause);
     let transmission = lent.transmit(owner, Packet::Data(segment));
     let ticket = Queue::Resend.named(lent.resend.start(deadline, owner, attempt))?;
-    lent.put(owner, record.resent(segment.sequence, ticket));
+    lent.put(channel, record.resent(segment.sequence, ticket));
     Ok(Action::Resent {
         channel: owner,
         segment,
@@ -47,8 +47,8 @@ pub fn resend_due<W: Store<Packet>, R: Store<Attempt>, K: Store<u8>>(
     ensures obeys { Obeys (λ s. resend_entry s entry) (lent_state W.Store R.Store K.Store lent.old) result (lent_state W.Store R.Store K.Store lent.new) }
     ensures kept { Kept W.Store R.Store K.Store lent.old lent.new }
 {
-    if lent.live(entry.owner) {
-        return resend_open(lent, entry.owner, entry.payload);
+    if let Some(channel) = lent.open_channel(entry.owner) {
+        return resend_open(lent, channel, entry.payload);
     }
     Ok(Action::Resent {
         channel: entry.owner,
@@ -61,18 +61,18 @@ pub fn resend_due<W: Store<Packet>, R: Store<Attempt>, K: Store<u8>>(
 #[tactic(auto, unfolding(protocol::specs::Rules::beat_rule))]
 fn beat_open<W: Store<Packet>, R: Store<Attempt>, K: Store<u8>>(
     lent: &mut Lent<W, R, K>,
-    owner: u8,
+    channel: ChannelNumber,
 ) -> Result<Action, RigFault>
-    requires { owner < 64 }
-    ensures obeys { Obeys (λ s. beat_rule s owner) (lent_state W.Store R.Store K.Store lent.old) result (lent_state W.Store R.Store K.Store lent.new) }
+    ensures obeys { Obeys (λ s. beat_rule s channel) (lent_state W.Store R.Store K.Store lent.old) result (lent_state W.Store R.Store K.Store lent.new) }
     ensures kept { Kept W.Store R.Store K.Store lent.old lent.new }
 {
-    let record = lent.record_of(owner);
+    let owner = channel.number();
+    let record = lent.record_of(channel);
     let sequence = record.next;
     let deadline = lent.wire.now().saturating_add(lent.rig.interval);
     let transmission = lent.transmit(owner, Packet::Keepalive { sequence });
     let ticket = Queue::Keepalive.named(lent.keepalive.start(deadline, owner, owner))?;
-    lent.put(owner, record.kept_alive(ticket));
+    lent.put(channel, record.kept_alive(ticket));
     Ok(Action::KeepaliveSent {
         channel: owner,
         heartbeat: Some(Heartbeat {
@@ -90,8 +90,8 @@ pub fn beat_due<W: Store<Packet>, R: Store<Attempt>, K: Store<u8>>(
     ensures obeys { Obeys (λ s. beat_entry s entry) (lent_state W.Store R.Store K.Store lent.old) result (lent_state W.Store R.Store K.Store lent.new) }
     ensures kept { Kept W.Store R.Store K.Store lent.old lent.new }
 {
-    if lent.live(entry.owner) {
-        return beat_open(lent, entry.owner);
+    if let Some(channel) = lent.open_channel(entry.owner) {
+        return beat_open(lent, channel);
     }
     Ok(Action::KeepaliveSent {
         channel: entry.owner,

@@ -1,10 +1,11 @@
-ghost use Rattle.std.specs.Prelude.{◌≡◌, ◌<◌, Ok};
+ghost use Rattle.std.specs.Prelude.{◌≡◌, Ok};
 ghost use Rattle.protocol.specs.Obeys.{Obeys};
 ghost use Rattle.timer.specs.Frame.{Framed};
 ghost use Rattle.timer.specs.Rules.{stop_rule};
 ghost use Rattle.protocol.specs.Rules.{data_rule, acknowledgement_rule, sample_of};
 ghost use Rattle.engine.specs.Loans.{lent_state, Kept};
 
+use channel::number::ChannelNumber;
 use channel::record::Attempt;
 use engine::cancel::cancel;
 use engine::lent::Lent;
@@ -28,15 +29,15 @@ fn stop_attempt<R: Store<Attempt>>(resend: &mut R, ticket: u32, tick: u32) -> Op
 #[tactic(auto, unfolding(protocol::specs::Rules::data_rule))]
 pub(crate) fn data<W: Store<Packet>, R: Store<Attempt>, K: Store<u8>>(
     lent: &mut Lent<W, R, K>,
-    owner: u8,
+    channel: ChannelNumber,
     segment: Segment,
 ) -> Action
-    requires { owner < 64 }
-    ensures obeys { Obeys (λ s. data_rule s owner segment) (lent_state W.Store R.Store K.Store lent.old) (Ok result) (lent_state W.Store R.Store K.Store lent.new) }
+    ensures obeys { Obeys (λ s. data_rule s channel segment) (lent_state W.Store R.Store K.Store lent.old) (Ok result) (lent_state W.Store R.Store K.Store lent.new) }
     ensures kept { Kept W.Store R.Store K.Store lent.old lent.new }
 {
-    let record = lent.record_of(owner);
-    lent.put(owner, record.received(segment));
+    let owner = channel.number();
+    let record = lent.record_of(channel);
+    lent.put(channel, record.received(segment));
     if !record.acknowledges(segment.sequence) {
         return Action::DataArrived {
             channel: owner,
@@ -59,14 +60,13 @@ pub(crate) fn data<W: Store<Packet>, R: Store<Attempt>, K: Store<u8>>(
 #[tactic(auto, unfolding(protocol::specs::Rules::acknowledgement_rule))]
 pub(crate) fn acknowledgement<W: Store<Packet>, R: Store<Attempt>, K: Store<u8>>(
     lent: &mut Lent<W, R, K>,
-    owner: u8,
+    channel: ChannelNumber,
     sequence: u32,
 ) -> Action
-    requires { owner < 64 }
-    ensures obeys { Obeys (λ s. acknowledgement_rule s owner sequence) (lent_state W.Store R.Store K.Store lent.old) (Ok result) (lent_state W.Store R.Store K.Store lent.new) }
+    ensures obeys { Obeys (λ s. acknowledgement_rule s channel sequence) (lent_state W.Store R.Store K.Store lent.old) (Ok result) (lent_state W.Store R.Store K.Store lent.new) }
     ensures kept { Kept W.Store R.Store K.Store lent.old lent.new }
 {
-    let record = lent.record_of(owner);
+    let record = lent.record_of(channel);
     let answered = match record.awaits(sequence) {
         Some(ticket) => {
             let sample = stop_attempt(lent.resend, ticket, lent.wire.now());
@@ -74,9 +74,9 @@ pub(crate) fn acknowledgement<W: Store<Packet>, R: Store<Attempt>, K: Store<u8>>
         }
         None => record,
     };
-    lent.put(owner, answered);
+    lent.put(channel, answered);
     Action::AcknowledgementArrived {
-        channel: owner,
+        channel: channel.number(),
         sequence,
     }
 }
