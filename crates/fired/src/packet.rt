@@ -19,10 +19,9 @@ fn stop_attempt<R: Store<Attempt>>(resend: &mut R, ticket: u32, tick: u32) -> Op
     ensures after { R.meaning resend.new ≡ (stop_rule (R.meaning resend.old) ticket).after }
     ensures framed { Framed R.Store resend.old resend.new }
 {
-    match cancel(resend, ticket) {
-        Ok((_, attempt)) => attempt.sample(tick),
-        Err(_) => None,
-    }
+    cancel(resend, ticket)
+        .ok()
+        .and_then(|(_, attempt)| attempt.sample(tick))
 }
 
 /// A word arrives on an open channel.
