@@ -1,5 +1,4 @@
-ghost use Rattle.std.specs.Prelude.{◌≡◌, Ok, Err, if◌then◌else◌, length, slice_index_or};
-ghost use Rattle.trace.specs.declared.fault.RigFault.TheVariants as fault;
+ghost use Rattle.std.specs.Prelude.{◌≡◌, if◌then◌else◌, length, slice_index_or};
 ghost use Rattle.channel.specs.Record.{as_read, is_open};
 ghost use Rattle.protocol.specs.State.{blank};
 ghost use Rattle.protocol.specs.Rules.{no_channel};
@@ -14,7 +13,7 @@ pub(crate) fn open_record(
     channel: u32,
 ) -> Result<(ChannelNumber, Channel), RigFault>
     requires { length records.now ≡ 64 }
-    ensures { let found : Channel = as_read (slice_index_or records.now channel blank) in result ≡ (if no_channel channel then Err fault.Channel else if is_open found then Ok (channel, found) else Err fault.State) }
+    ensures { let found : Channel = as_read (slice_index_or records.now channel blank) in result ≡ (if no_channel channel then Err RigFault.Channel else if is_open found then Ok (channel, found) else Err RigFault.State) }
 {
     let channel = ChannelNumber::try_from(channel)?;
     let record = records[channel.index()].read();

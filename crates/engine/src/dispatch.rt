@@ -1,9 +1,8 @@
-ghost use Rattle.std.specs.Prelude.{◌≡◌, ◌+◌, ◌<◌, ◌≤◌};
+ghost use Rattle.std.specs.Prelude.{◌≡◌, ◌+◌};
 ghost use Rattle.timer.specs.Frame.{Framed};
 ghost use Rattle.link.specs.Fate.{fate_delay};
 ghost use Rattle.channel.specs.Record.{stop};
-ghost use Rattle.timer.specs.Rules.{start_rule};
-ghost use Rattle.protocol.specs.Link.{carry, counted};
+ghost use Rattle.protocol.specs.Link.{carry};
 ghost use Rattle.engine.specs.Parts.{own_fate};
 
 use crate::rig::Rig;
@@ -11,26 +10,6 @@ use link::fate::{copies, delay, fate_of};
 use link::packet::Packet;
 use timer::store::Store;
 use trace::action::Transmission;
-
-// Starts one more copy of a packet, and answers how many the wire has accepted then.
-fn carry_copy<W: Store<Packet>>(
-    wire: &mut W,
-    deadline: u32,
-    owner: u8,
-    packet: Packet,
-    accepted: u8,
-) -> u8
-    requires { accepted < 255 }
-    ensures value { result ≡ counted (start_rule (W.meaning wire.old) deadline owner packet).answer accepted }
-    ensures most { result ≤ accepted + 1 }
-    ensures after { W.meaning wire.new ≡ (start_rule (W.meaning wire.old) deadline owner packet).after }
-    ensures framed { Framed W.Store wire.old wire.new }
-{
-    match wire.start(deadline, owner, packet) {
-        Ok(_) => accepted + 1,
-        Err(_) => accepted,
-    }
-}
 
 // Starts the copies of a packet with this fate on the wire, and answers how many the wire accepted.
 #[tactic(auto, unfolding(protocol::specs::Link::carry))]
@@ -42,7 +21,9 @@ fn carry<W: Store<Packet>>(wire: &mut W, fate: u16, owner: u8, packet: Packet) -
     let deadline = wire.now().saturating_add(delay(fate) as u32);
     let mut accepted = 0;
     for _copy in 0..copies(fate) {
-        accepted = carry_copy(wire, deadline, owner, packet, accepted);
+        if wire.start(deadline, owner, packet).is_ok() {
+            accepted += 1;
+        }
     }
     accepted
 }

@@ -1,4 +1,4 @@
-ghost use Rattle.std.specs.Prelude.{◌≡◌, Some, None, if◌then◌else◌, length};
+ghost use Rattle.std.specs.Prelude.{◌≡◌, if◌then◌else◌, length};
 ghost use Rattle.protocol.specs.State.{record_of, put, low};
 ghost use Rattle.protocol.specs.Link.{transmit};
 ghost use Rattle.protocol.specs.Rules.{live};
