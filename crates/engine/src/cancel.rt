@@ -17,7 +17,6 @@ pub fn cancel<P, S: Store<P>>(store: &mut S, ticket: u32) -> Result<(u8, P), Tim
 }
 
 /// Stops the resend timers of all places where a word waits.
-#[tactic(auto, using(crate::proofs::Cancels::cancel_more, crate::proofs::Cancels::cancelled_all))]
 pub fn cancel_all<R: Store<Attempt>>(resend: &mut R, places: [Option<u32>; 8])
     ensures after { R.meaning resend.new ≡ (all_cancelled places (R.meaning resend.old)).after }
     ensures framed { Framed R.Store resend.old resend.new }
