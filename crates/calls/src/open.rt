@@ -1,7 +1,6 @@
 ghost use Rattle.std.specs.Prelude.{◌≡◌, length};
 ghost use Rattle.protocol.specs.Obeys.{Obeys};
 ghost use Rattle.timer.specs.Frame.{Framed};
-ghost use Rattle.protocol.specs.State.{State};
 ghost use Rattle.engine.specs.Parts.{state_of};
 ghost use Rattle.calls.specs.Bodies.{open_body};
 

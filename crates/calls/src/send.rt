@@ -1,7 +1,8 @@
-ghost use Rattle.std.specs.Prelude.{◌≡◌, length};
+ghost use Rattle.std.specs.Prelude.{◌≡◌, length, slice_index_or};
 ghost use Rattle.protocol.specs.Obeys.{Obeys};
 ghost use Rattle.timer.specs.Frame.{Framed};
-ghost use Rattle.protocol.specs.State.{State, record_of};
+ghost use Rattle.channel.specs.Record.{as_read};
+ghost use Rattle.protocol.specs.State.{blank};
 ghost use Rattle.protocol.specs.Rules.{send_start};
 ghost use Rattle.engine.specs.Parts.{state_of};
 ghost use Rattle.calls.specs.Bodies.{send_body};
@@ -57,7 +58,8 @@ fn launch<W: Store<Packet>, R: Store<Attempt>, K: Store<u8>>(
     record: Channel,
     word: u32,
 ) -> Result<Action, RigFault>
-    requires { let s : State = state_of rig.old fates.now (W.meaning wire.old) (R.meaning resend.old) (K.meaning keepalive.now) records.old in (length records.old ≡ 64) × («record» ≡ record_of s channel) }
+    requires table { length records.old ≡ 64 }
+    requires found { «record» ≡ as_read (slice_index_or records.old channel blank) }
     ensures obeys { Obeys (λ s. send_start s channel word) (state_of rig.old fates.now (W.meaning wire.old) (R.meaning resend.old) (K.meaning keepalive.now) records.old) result (state_of rig.new fates.now (W.meaning wire.new) (R.meaning resend.new) (K.meaning keepalive.now) records.new) }
     ensures wire { Framed W.Store wire.old wire.new }
     ensures resend { Framed R.Store resend.old resend.new }
