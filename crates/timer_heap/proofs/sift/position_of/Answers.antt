@@ -1,6 +1,0 @@
-use Rattle.std.proofs.Common.{sym}
-use Rattle.std.proofs.lemmas.List.{get_or-map}
-use Rattle.timer_heap.proofs.sift.position_of.Goals as goal
-
-pub returns : goal.returns
-returns g c = sym (get_or-map (λ r. r.prev) c.args.rows.now c.args.row _ 0 c.requires)
