@@ -46,20 +46,13 @@ pub(crate) fn swap<P: Copy>(rows: &mut [Row<P>], a: usize, b: usize)
     put(rows, b, x);
 }
 
-// What the heap is ordered by: the deadline, and then the ticket.
-fn order(deadline: u32, ticket: u32) -> u64
-    ensures { result ≡ deadline * 4294967296 + ticket }
-{
-    u64::from(deadline) * 0x1_0000_0000 + u64::from(ticket)
-}
-
-// The order of the entry at a position.
-pub(crate) fn rank<P: Copy>(rows: &[Row<P>], position: usize) -> u64
+// What the heap is ordered by: the deadline of the entry at a position, and then its ticket.
+pub(crate) fn rank<P: Copy>(rows: &[Row<P>], position: usize) -> (u32, u32)
     requires { (position < length rows.now) × (slice_index (nexts rows.now) position < length rows.now) }
-    ensures { result ≡ rank_at rows.now position }
+    ensures { result.0 * 4294967296 + result.1 ≡ rank_at rows.now position }
 {
     let row = rows[row_at(rows, position)];
-    order(row.deadline, row.ticket)
+    (row.deadline, row.ticket)
 }
 
 // The position above another, if its entry comes later.
@@ -71,11 +64,7 @@ fn above<P: Copy>(rows: &[Row<P>], i: usize) -> Option<usize>
         return None;
     }
     let parent = (i - 1) / 2;
-    if rank(rows, i) < rank(rows, parent) {
-        Some(parent)
-    } else {
-        None
-    }
+    (rank(rows, i) < rank(rows, parent)).then_some(parent)
 }
 
 // Of the positions below another, the one whose entry comes first.
@@ -101,11 +90,7 @@ fn below<P: Copy>(rows: &[Row<P>], i: usize, count: usize) -> Option<usize>
         return None;
     }
     let child = first_child(rows, i, count);
-    if rank(rows, child) < rank(rows, i) {
-        Some(child)
-    } else {
-        None
-    }
+    (rank(rows, child) < rank(rows, i)).then_some(child)
 }
 
 // Lets the entry at a position rise while the one above it comes later.
