@@ -55,6 +55,7 @@ impl<'s, P: Copy, S: Store<P>> Store<P> for Quota<'s, S> {
         self.inner.check(deadline, owner).or(own)
     }
 
+    #[tactic(auto, using(crate::proofs::Cuts::start_answer, crate::proofs::Cuts::start_after))]
     fn start(&mut self, deadline: u32, owner: u8, payload: P) -> Result<u32, TimerFault> {
         match self.check(deadline, owner) {
             Some(fault) => Err(fault),
