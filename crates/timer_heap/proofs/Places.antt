@@ -1,9 +1,12 @@
 -- The rows and positions of a heap when two entries change places, and when one comes or goes.
 use Rattle.std.proofs.Common.{◌≡◌, ℕ, ◌+◌, ◌<◌, ◌≤◌, ◌≢◌, List, length, get_or, set, sym, ap, ◌∙◌, ⊎_elim, arith}
-use Rattle.std.proofs.lemmas.List.{get_or_past, get_or-set_same, get_or-set_other, length-set}
+use Rattle.std.proofs.lemmas.List.{get_or_past, get_or-set_same, get_or-set_other, length-set, map-set}
 use Rattle.std.proofs.lemmas.Bool.{cases_eq, cases_lt}
-use Rattle.timer_rows.proofs.Columns.{set_cases}
+use Rattle.timer_rows.proofs.Columns.{column_same, set_cases}
 use Rattle.timer_heap.specs.Positions.{Index}
+
+-- a column of the rows after a write
+pub ruleset written = (column_same, map-set)
 
 -- a row that holds an entry is one of the rows
 pub within : (ts : List ℕ) (r : ℕ) → get_or ts r 0 ≢ 0 → r < length ts

@@ -22,6 +22,7 @@ pub(crate) fn position_of<P: Copy>(rows: &[Row<P>], row: usize) -> usize
 }
 
 // Notes that the entry of a row stands at a position.
+#[tactic(auto, using(crate::proofs::Places::written))]
 pub(crate) fn put<P: Copy>(rows: &mut [Row<P>], position: usize, row: usize)
     requires { (position < length rows.old) × (row < length rows.old) × (length rows.old ≤ 4096) }
     ensures cells { nexts rows.new ≡ slice_set (nexts rows.old) position row }
