@@ -8,7 +8,7 @@ use Rattle.timer_heap.specs.Order.{Under, Sooner, Settled, Later}
 use Rattle.timer_heap.specs.Positions.{Index, Indexed, Ordered, Unsettled, Sinking, key, keys, rank_at}
 use Rattle.timer_heap.proofs.Places.{cell_within, swap_index, twice_first, twice_second, twice_other}
 use Rattle.timer_heap.proofs.Rises.{rise, rise_under, rests, risen}
-use Rattle.timer_heap.proofs.Sinks.{sink, settles}
+use Rattle.timer_heap.proofs.Sinks.{sink}
 
 module _ {P : Type 0} (rows : List (Row P)) (k : ℕ) (h : Indexed rows k) where
   -- a position and the row that stands there
@@ -82,7 +82,7 @@ module _ {P : Type 0} (rows : List (Row P)) (k : ℕ) (h : Indexed rows k) where
     swapped_other i na nb = rank_by i i (cell_other i na nb)
 
 module _ {P : Type 0} (rows : List (Row P)) (i k : ℕ) where
-  -- an entry that rises no more, and one that sinks no more
+  -- an entry that rises no more
   pub stays_up : (start : ℕ) → start < k → Settled (rank_at rows) i → Unsettled rows i k → (i ≢ start → Under (rank_at rows) i k) → Sinking rows start k
   stays_up start l w u d =
       record {
@@ -91,9 +91,6 @@ module _ {P : Type 0} (rows : List (Row P)) (i k : ℕ) where
         index = u.index;
         sunk = risen (rank_at rows) k start i d (rests (rank_at rows) k i w u.loose);
       }
-
-  pub stays_down : Under (rank_at rows) i k → Sinking rows i k → Ordered rows k
-  stays_down w s = record { index = s.index; heap = settles (rank_at rows) i k w s.sunk }
 
   -- a step up to q, and a step down to q
   module _ (rows' : List (Row P)) (q : ℕ) (same : contents rows' ≡ contents rows) where
