@@ -2,28 +2,8 @@ use Rattle.std.proofs.Common.{◌<◌, sym, ◌∙◌, arith}
 use Rattle.std.proofs.lemmas.Bool.{eqb-true, eqb-false}
 use Rattle.timer_rows.proofs.Cells.{read_deadline}
 use Rattle.timer_order.proofs.Dues.{asked}
-use Rattle.timer_heap.proofs.Swaps.{reach}
-use Rattle.timer_heap.proofs.Changes.{none_pending, top_row, top_due, top_later}
+use Rattle.timer_heap.proofs.Changes.{top_row, top_due, top_later}
 use Rattle.timer_heap.proofs.heap.HeapOrderOrder.first_due.Goals as goal
-
-pub returns-then-ledger-eq0 : goal.returns-then-ledger-eq0
-returns-then-ledger-eq0 g c = none_pending c.args.rows.now c.args.ledger.now c.requires.kept c.requires.held c.if-ledger-eq0.true
-
-pub row_at-x-requires : goal.row_at-x-requires
-row_at-x-requires g c =
-    let ne = c.if-ledger-eq0.false in
-    (reach c.args.rows.now c.args.ledger.now.pending c.requires.held.index 0 (omega arith)).0
-
-pub offset_bounds-rows-x : goal.offset_bounds-rows-x
-offset_bounds-rows-x g c =
-    let ne = c.if-ledger-eq0.false in
-    let l = (top_row c.args.rows.now c.args.ledger.now c.requires.kept c.requires.held c.row_at-x.result (omega arith) c.row_at-x.ensures).1 in
-    omega arith
-
-pub bounds-rows-x : goal.bounds-rows-x
-bounds-rows-x g c =
-    let ne = c.if-ledger-eq0.false in
-    (top_row c.args.rows.now c.args.ledger.now c.requires.kept c.requires.held c.row_at-x.result (omega arith) c.row_at-x.ensures).1
 
 pub returns : goal.returns
 returns g c =

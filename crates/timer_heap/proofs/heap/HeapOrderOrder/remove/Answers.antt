@@ -1,18 +1,7 @@
 use Rattle.std.proofs.Common.{◌-◌, get_or, sym, ap, ◌∙◌, arith}
 use Rattle.timer_rows.proofs.Same.{same_kept, same_column, same_length, same_meant}
-use Rattle.timer_heap.proofs.Swaps.{reach}
-use Rattle.timer_heap.proofs.Changes.{gap_below, last_below, left_unsettled, left_ordered, left_meant, left_all}
+use Rattle.timer_heap.proofs.Changes.{left_unsettled, left_ordered, left_meant, left_all}
 use Rattle.timer_heap.proofs.heap.HeapOrderOrder.remove.Goals as goal
-
-pub swap-requires : goal.swap-requires
-swap-requires g c =
-    let rows = c.args.rows.now in
-    let l = c.args.ledger.now in
-    let h = c.requires.held in
-    let e = c.position_of-gap.ensures in
-    let a = reach rows l.pending h.index _ (gap_below rows l c.requires.kept h c.args.x c.requires.live.1 _ _ e (ap (λ n. n - 1) c.from-last.ensures)) in
-    let b = reach rows l.pending h.index _ (last_below rows l c.requires.kept h c.args.x c.requires.live.1 _ _ e (ap (λ n. n - 1) c.from-last.ensures)) in
-    record { positions = (a.0, b.0, c.requires.kept.few); rows = (a.1, b.1) }
 
 pub leave-requires : goal.leave-requires
 leave-requires g c =
