@@ -106,10 +106,10 @@ module _ {P : Type 0} (rows : List (Row P)) (l : Ledger) (k : Kept rows l) (h : 
     gap_inside = h.index.placed x n
 
     module _ (gap last : ℕ) (ge : gap ≡ get_or (prevs rows) x 0) (le : last ≡ l.pending - 1) where
-      pub gap_below : gap < l.pending
+      gap_below : gap < l.pending
       gap_below = omega (arith, gap_inside, ge)
 
-      pub last_below : last < l.pending
+      last_below : last < l.pending
       last_below = omega (arith, gap_inside)
 
       module _ (mid rows' : List (Row P)) (cells : nexts mid ≡ set (set (nexts rows) gap (get_or (nexts rows) last 0)) last (get_or (nexts rows) gap 0)) (places : prevs mid ≡ set (set (prevs rows) (get_or (nexts rows) last 0) gap) (get_or (nexts rows) gap 0) last) (same : contents mid ≡ contents rows) (is : (d : Row P) → rows' ≡ set mid x (vacated (get_or mid x d))) where
@@ -184,10 +184,6 @@ module _ {P : Type 0} (rows : List (Row P)) (l : Ledger) (k : Kept rows l) (h : 
 
     pub left_all : (rows' : List (Row P)) (l' : Ledger) → Kept rows' l' → meant rows' l' ≡ with_pending (meant rows l) (without (get_or (tickets rows) x 0) (entries rows)) → (last : ℕ) → last ≡ l.pending - 1 → Ordered rows' last → Ordered rows' l'.pending
     left_all rows' l' kept is last e o = subst (λ m. Ordered rows' m) (e ∙ sym (left_count rows' l' kept is)) o
-
-  -- where nothing is pending, nothing is due
-  pub none_pending : l.pending ≡ 0 → NoneDue l.now rows
-  none_pending z i b n e = omega (arith, h.index.placed i n)
 
   -- the row at the top
   module _ (x : ℕ) (some : 0 < l.pending) (is : x ≡ get_or (nexts rows) 0 0) where
