@@ -5,7 +5,7 @@ use Rattle.timer_rows.specs.declared.row.Row.{Row}
 use Rattle.timer_rows.specs.Rows.{tickets, nexts, prevs, contents}
 use Rattle.timer_rows.proofs.Same.{same_column, same_length}
 use Rattle.timer_heap.specs.Order.{Under, Sooner, Settled, Later}
-use Rattle.timer_heap.specs.Positions.{Index, Indexed, Ordered, Unsettled, Sinking, key, keys, rank_at}
+use Rattle.timer_heap.specs.Positions.{Index, Indexed, Unsettled, Sinking, key, keys, rank_at}
 use Rattle.timer_heap.proofs.Places.{cell_within, swap_index, twice_first, twice_second, twice_other}
 use Rattle.timer_heap.proofs.Rises.{rise, rise_under, rests, risen}
 use Rattle.timer_heap.proofs.Sinks.{sink}
