@@ -12,18 +12,14 @@ use Rattle.timer_rows.proofs.Pending.{live_row}
 use Rattle.timer_rows.specs.declared.ledger.Ledger.{Ledger}
 use Rattle.timer_rows.specs.Kept.{Kept}
 use Rattle.timer_list.specs.Sorted.{home, key, homes, keys, Sorted, Spot}
-use Rattle.timer_list.proofs.Spots.{home_at, key_at, live_home, home_live, sentinel_home, one_end}
+use Rattle.timer_list.proofs.Spots.{home_at, key_at, live_home, home_live, sentinel_home}
 
 module _ {P : Type 0} (rows : List (Row P)) (ledger : Ledger) (es : List Ends) (k : Kept rows ledger) (h : Sorted rows es) where
   -- the links of a node of the list are nodes
-  pub node_links : (q : ℕ) → get_or (homes rows) q 1 ≡ 0 → (q < length rows + length es) × (get_or (ons rows es) q 0 < length rows + length es) × (get_or (backs rows es) q 0 < length rows + length es)
+  pub node_links : (q : ℕ) → get_or (homes rows) q 1 ≡ 0 → (q < length rows + 1) × (get_or (ons rows es) q 0 < length rows + 1) × (get_or (backs rows es) q 0 < length rows + 1)
   node_links q e =
       let z : get_or (homes rows) q 1 < 1 = omega (arith, e) in
-      let o = one_end rows es h in (
-        omega (arith, node_below _ _ _ _ (length rows) 1 h q z),
-        omega (arith, (h.on q z).0),
-        omega (arith, (h.back q z).0),
-      )
+      (node_below _ _ _ _ (length rows) 1 h q z, (h.on q z).0, (h.back q z).0)
 
   -- an entry with the next ticket goes before the spot of its deadline
   module _ (x q deadline owner : ℕ) (payload : P) (xl : x < length rows) (v : get_or (tickets rows) x 0 ≡ 0) (o : Open (meant rows ledger) deadline owner) (spot : Spot rows es deadline q) where

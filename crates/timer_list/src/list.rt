@@ -4,10 +4,9 @@ ghost use Rattle.timer_list.specs.Sorted.{Sorted, Spot};
 
 use timer_order::order::Order;
 use timer_order::row_store::RowStore;
-use timer_rows::ends::Ends;
 use timer_rows::entries::{enter, leave};
 use timer_rows::ledger::Ledger;
-use timer_rows::links::{link, unlink};
+use timer_rows::links::Sentinels;
 use timer_rows::row::Row;
 use timer_rows::rows::vacant;
 
@@ -17,17 +16,17 @@ pub type SortedList<'a, P> = RowStore<'a, P, ListOrder>;
 /// The order of a doubly linked list by deadline, then ticket.
 #[derive(Clone, Copy, Drop)]
 pub struct ListOrder {
-    /// The list's sentinel.
-    pub(crate) ends: [Ends; 1],
+    /// The list's sentinel: the list is its one slot.
+    pub(crate) slots: Sentinels<1>,
 }
 
 impl ListOrder {
     // The node before which an entry with the deadline goes, sought from the front.
     fn spot<P: Copy>(&self, rows: &[Row<P>], deadline: u32) -> u16
-        requires { Sorted rows.now self.now.ends }
-        ensures { Spot rows.now self.now.ends deadline result }
+        requires { Sorted rows.now self.now.slots.ends }
+        ensures { Spot rows.now self.now.slots.ends deadline result }
     {
-        let mut node = self.ends[0].head;
+        let mut node = self.slots.ends[0].head;
         while (node as usize) < rows.len() {
             let row = rows[node as usize];
             if row.is_after(deadline) {
@@ -40,7 +39,7 @@ impl ListOrder {
 }
 
 impl<P: Copy> Order<P> for ListOrder {
-    ghost Holds = { λ s rows _. Sorted rows s.ends };
+    ghost Holds = { λ s rows _. Sorted rows s.slots.ends };
 
     ghost last_of = { λ asked. asked };
 
@@ -49,12 +48,8 @@ impl<P: Copy> Order<P> for ListOrder {
     }
 
     fn empty(count: usize) -> Self {
-        let sentinel = count as u16;
         ListOrder {
-            ends: [Ends {
-                head: sentinel,
-                tail: sentinel,
-            }],
+            slots: Sentinels::empty(count),
         }
     }
 
@@ -69,17 +64,17 @@ impl<P: Copy> Order<P> for ListOrder {
         let node = self.spot(rows, deadline);
         let x = vacant(rows, ledger);
         let ticket = enter(rows, ledger, x, deadline, owner, payload);
-        link(rows, &mut self.ends, x as u16, node);
+        self.slots.link(rows, x as u16, node);
         ticket
     }
 
     fn remove(&mut self, rows: &mut [Row<P>], ledger: &mut Ledger, x: usize) {
-        unlink(rows, &mut self.ends, x as u16);
+        self.slots.unlink(rows, x as u16);
         leave(rows, ledger, x);
     }
 
     fn first_due(&self, rows: &[Row<P>], ledger: &Ledger) -> Option<usize> {
-        let x = usize::from(self.ends[0].head);
+        let x = usize::from(self.slots.ends[0].head);
         rows.get(x)?.is_due(ledger.now).then_some(x)
     }
 

@@ -1,104 +1,109 @@
-ghost use Rattle.std.specs.Prelude.{◌≡◌, ℕ, ◌+◌, ◌<◌, ◌≤◌, [], length, slice_index, slice_index_or, slice_set};
+ghost use Rattle.std.specs.Prelude.{◌≡◌, ℕ, ◌+◌, ◌<◌, ◌≤◌, length, slice_index, slice_index_or, slice_set};
 ghost use Rattle.timer_rows.specs.Links.{ons, backs};
 ghost use Rattle.timer_rows.specs.Rows.{contents};
 
 use crate::ends::Ends;
 use crate::row::Row;
 
-/// The node after a node; with n rows, node n + s is the sentinel of slot s.
-pub fn next<P: Copy>(rows: &[Row<P>], ends: &[Ends], node: u16) -> u16
-    requires { node < length rows.now + length ends.now }
-    ensures { result ≡ slice_index (ons rows.now ends.now) node }
-{
-    let i = node as usize;
-    if i < rows.len() {
-        rows[i].next
-    } else {
-        ends[i - rows.len()].head
+/// The sentinels of `N` slots; with n rows, the rows are the nodes from 0, and node n + s is the sentinel of slot s.
+#[derive(Clone, Copy, Drop)]
+pub struct Sentinels<const N: usize> {
+    /// The sentinel of each slot.
+    pub ends: [Ends; N],
+}
+
+impl<const N: usize> Sentinels<N> {
+    /// The sentinels of empty slots beside so many rows: each leads to itself.
+    pub fn empty(rows: usize) -> Self
+        requires { rows + N ≤ 65535 }
+        ensures ends { (s : ℕ) → s < N → slice_index_or result.ends s (record { head = 0; tail = 0 }) ≡ record { head = rows + s; tail = rows + s } }
+        ensures number { length result.ends ≡ N }
+    {
+        let mut ends = [Ends { head: 0, tail: 0 }; N];
+        for (s, end) in ends.iter_mut().enumerate() {
+            let sentinel = (rows + s) as u16;
+            *end = Ends {
+                head: sentinel,
+                tail: sentinel,
+            };
+        }
+        Sentinels { ends }
     }
-}
 
-/// The node before a node.
-pub fn prev<P: Copy>(rows: &[Row<P>], ends: &[Ends], node: u16) -> u16
-    requires { node < length rows.now + length ends.now }
-    ensures { result ≡ slice_index (backs rows.now ends.now) node }
-{
-    let i = node as usize;
-    if i < rows.len() {
-        rows[i].prev
-    } else {
-        ends[i - rows.len()].tail
+    /// The nodes beside a node: the one after it is the head, the one before it the tail.
+    pub fn beside<P: Copy>(&self, rows: &[Row<P>], node: u16) -> Ends
+        requires { node < length rows.now + N }
+        ensures after { result.head ≡ slice_index (ons rows.now self.now.ends) node }
+        ensures before { result.tail ≡ slice_index (backs rows.now self.now.ends) node }
+    {
+        let i = node as usize;
+        if i < rows.len() {
+            Ends {
+                head: rows[i].next,
+                tail: rows[i].prev,
+            }
+        } else {
+            self.ends[i - rows.len()]
+        }
     }
-}
 
-fn set_next<P: Copy>(rows: &mut [Row<P>], ends: &mut [Ends], node: u16, to: u16)
-    requires { node < length rows.old + length ends.old }
-    ensures ons { ons rows.new ends.new ≡ slice_set (ons rows.old ends.old) node to }
-    ensures backs { backs rows.new ends.new ≡ backs rows.old ends.old }
-    ensures contents { contents rows.new ≡ contents rows.old }
-{
-    let i = node as usize;
-    if i < rows.len() {
-        rows[i].next = to;
-    } else {
-        ends[i - rows.len()].head = to;
+    fn set_next<P: Copy>(&mut self, rows: &mut [Row<P>], node: u16, to: u16)
+        requires { node < length rows.old + N }
+        ensures ons { ons rows.new self.new.ends ≡ slice_set (ons rows.old self.old.ends) node to }
+        ensures backs { backs rows.new self.new.ends ≡ backs rows.old self.old.ends }
+        ensures contents { contents rows.new ≡ contents rows.old }
+    {
+        let i = node as usize;
+        if i < rows.len() {
+            rows[i].next = to;
+        } else {
+            self.ends[i - rows.len()].head = to;
+        }
     }
-}
 
-fn set_prev<P: Copy>(rows: &mut [Row<P>], ends: &mut [Ends], node: u16, to: u16)
-    requires { node < length rows.old + length ends.old }
-    ensures ons { ons rows.new ends.new ≡ ons rows.old ends.old }
-    ensures backs { backs rows.new ends.new ≡ slice_set (backs rows.old ends.old) node to }
-    ensures contents { contents rows.new ≡ contents rows.old }
-{
-    let i = node as usize;
-    if i < rows.len() {
-        rows[i].prev = to;
-    } else {
-        ends[i - rows.len()].tail = to;
+    fn set_prev<P: Copy>(&mut self, rows: &mut [Row<P>], node: u16, to: u16)
+        requires { node < length rows.old + N }
+        ensures ons { ons rows.new self.new.ends ≡ ons rows.old self.old.ends }
+        ensures backs { backs rows.new self.new.ends ≡ slice_set (backs rows.old self.old.ends) node to }
+        ensures contents { contents rows.new ≡ contents rows.old }
+    {
+        let i = node as usize;
+        if i < rows.len() {
+            rows[i].prev = to;
+        } else {
+            self.ends[i - rows.len()].tail = to;
+        }
     }
-}
 
-/// Takes a row out of its slot: the nodes beside it are linked to each other.
-pub fn unlink<P: Copy>(rows: &mut [Row<P>], ends: &mut [Ends], x: u16)
-    requires node { x < length rows.old + length ends.old }
-    requires after { slice_index (ons rows.old ends.old) x < length rows.old + length ends.old }
-    requires before { slice_index (backs rows.old ends.old) x < length rows.old + length ends.old }
-    ensures ons { ons rows.new ends.new ≡ slice_set (ons rows.old ends.old) (slice_index (backs rows.old ends.old) x) (slice_index (ons rows.old ends.old) x) }
-    ensures backs { backs rows.new ends.new ≡ slice_set (backs rows.old ends.old) (slice_index (ons rows.old ends.old) x) (slice_index (backs rows.old ends.old) x) }
-    ensures contents { contents rows.new ≡ contents rows.old }
-{
-    let before = prev(rows, ends, x);
-    let after = next(rows, ends, x);
-    set_next(rows, ends, before, after);
-    set_prev(rows, ends, after, before);
-}
+    /// Takes a row out of its slot: the nodes beside it are linked to each other.
+    pub fn unlink<P: Copy>(&mut self, rows: &mut [Row<P>], x: u16)
+        requires node { x < length rows.old + N }
+        requires after { slice_index (ons rows.old self.old.ends) x < length rows.old + N }
+        requires before { slice_index (backs rows.old self.old.ends) x < length rows.old + N }
+        ensures ons { ons rows.new self.new.ends ≡ slice_set (ons rows.old self.old.ends) (slice_index (backs rows.old self.old.ends) x) (slice_index (ons rows.old self.old.ends) x) }
+        ensures backs { backs rows.new self.new.ends ≡ slice_set (backs rows.old self.old.ends) (slice_index (ons rows.old self.old.ends) x) (slice_index (backs rows.old self.old.ends) x) }
+        ensures contents { contents rows.new ≡ contents rows.old }
+    {
+        let Ends {
+            head: after,
+            tail: before,
+        } = self.beside(rows, x);
+        self.set_next(rows, before, after);
+        self.set_prev(rows, after, before);
+    }
 
-/// Puts a row that is in no slot before a node.
-pub fn link<P: Copy>(rows: &mut [Row<P>], ends: &mut [Ends], x: u16, node: u16)
-    requires nodes { (x < length rows.old + length ends.old) × (node < length rows.old + length ends.old) }
-    requires before { slice_index (backs rows.old ends.old) node < length rows.old + length ends.old }
-    ensures ons { ons rows.new ends.new ≡ slice_set (slice_set (ons rows.old ends.old) (slice_index (backs rows.old ends.old) node) x) x node }
-    ensures backs { backs rows.new ends.new ≡ slice_set (slice_set (backs rows.old ends.old) node x) x (slice_index (backs rows.old ends.old) node) }
-    ensures contents { contents rows.new ≡ contents rows.old }
-{
-    let before = prev(rows, ends, node);
-    set_next(rows, ends, before, x);
-    set_next(rows, ends, x, node);
-    set_prev(rows, ends, node, x);
-    set_prev(rows, ends, x, before);
-}
-
-/// Empties every slot: each sentinel leads to itself.
-pub fn unlink_all(ends: &mut [Ends], rows: usize)
-    requires { rows + length ends.old ≤ 65535 }
-    ensures { (s : ℕ) → s < length ends.new → slice_index_or ends.new s (record { head = 0; tail = 0 }) ≡ record { head = rows + s; tail = rows + s } }
-{
-    for (s, end) in ends.iter_mut().enumerate() {
-        let sentinel = (rows + s) as u16;
-        *end = Ends {
-            head: sentinel,
-            tail: sentinel,
-        };
+    /// Puts a row that is in no slot before a node.
+    pub fn link<P: Copy>(&mut self, rows: &mut [Row<P>], x: u16, node: u16)
+        requires nodes { (x < length rows.old + N) × (node < length rows.old + N) }
+        requires before { slice_index (backs rows.old self.old.ends) node < length rows.old + N }
+        ensures ons { ons rows.new self.new.ends ≡ slice_set (slice_set (ons rows.old self.old.ends) (slice_index (backs rows.old self.old.ends) node) x) x node }
+        ensures backs { backs rows.new self.new.ends ≡ slice_set (slice_set (backs rows.old self.old.ends) node x) x (slice_index (backs rows.old self.old.ends) node) }
+        ensures contents { contents rows.new ≡ contents rows.old }
+    {
+        let before = self.beside(rows, node).tail;
+        self.set_next(rows, before, x);
+        self.set_next(rows, x, node);
+        self.set_prev(rows, node, x);
+        self.set_prev(rows, x, before);
     }
 }

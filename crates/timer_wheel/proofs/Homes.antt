@@ -8,7 +8,6 @@ use Rattle.timer_rows.specs.declared.row.Row.{Row}
 use Rattle.timer_rows.specs.declared.ends.Ends.{Ends}
 use Rattle.timer_rows.specs.Links.{ons, backs, Linked, homes_by}
 use Rattle.timer_rows.specs.Rows.{tickets, deadlines, entry_of}
-use Rattle.timer_rows.proofs.Columns.{column_length}
 use Rattle.timer_rows.proofs.Linking.{node_below}
 use Rattle.timer_wheel.specs.Placed.{all_slots}
 
@@ -52,15 +51,7 @@ module _ {P : Type 0} where
       subst (λ k. get_or (homes_by (by f) all_slots rows) k 256 ≡ get_or hs k 256) (sym e) (sentinel_home f rows (i - length rows) z ∙ sym (there (i - length rows) z)))
       (cases_lt i (length rows)))
 
--- there are 256 sentinels, and the links of a node in a slot are nodes
+-- the links of a node in a slot are nodes
 module _ {P : Type 0} (rows : List (Row P)) (es : List Ends) (hs ks : List ℕ) (k : Linked (ons rows es) (backs rows es) hs ks (length rows) 256) where
-  pub all_ends : length es ≡ 256
-  all_ends = let a = k.onward in let b = column_length (λ r. r.next) (λ e. e.head) rows es in omega arith
-
-  pub node_links : (q : ℕ) → get_or hs q 256 < 256 → (q < length rows + length es) × (get_or (ons rows es) q 0 < length rows + length es) × (get_or (backs rows es) q 0 < length rows + length es)
-  node_links q z =
-      let o = all_ends in (
-        omega (arith, node_below _ _ _ _ (length rows) 256 k q z),
-        omega (arith, (k.on q z).0),
-        omega (arith, (k.back q z).0),
-      )
+  pub node_links : (q : ℕ) → get_or hs q 256 < 256 → (q < length rows + 256) × (get_or (ons rows es) q 0 < length rows + 256) × (get_or (backs rows es) q 0 < length rows + 256)
+  node_links q z = (node_below _ _ _ _ (length rows) 256 k q z, (k.on q z).0, (k.back q z).0)

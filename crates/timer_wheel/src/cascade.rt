@@ -4,39 +4,39 @@ ghost use Rattle.timer_wheel.specs.Place.{source_of};
 ghost use Rattle.timer_wheel.specs.Placed.{Slotted};
 ghost use Rattle.timer_wheel.specs.Pouring.{Waiting};
 
-use crate::links::{append, front};
 use crate::place::{place, source};
-use timer_rows::ends::Ends;
-use timer_rows::links::unlink;
+use crate::wheel::WheelOrder;
 use timer_rows::row::Row;
 
-// Empties a slot from its front as the tick ends: each entry goes to the end of the slot of its new place.
-fn pour<P: Copy>(rows: &mut [Row<P>], ends: &mut [Ends], tick: u32, slot: u8)
-    requires waiting { Waiting tick rows.old }
-    requires slots { Slotted tick rows.old ends.old }
-    requires turn { (tick < 16777215) × ((tick + 1) % 64 ≡ 0) × (slot ≡ source_of (tick + 1)) }
-    ensures slots { Slotted (tick + 1) rows.new ends.new }
-    ensures contents { contents rows.new ≡ contents rows.old }
-{
-    let count = rows.len() as u16;
-    let mut x = front(rows, ends, slot);
-    while x < count {
-        let to = place(tick + 1, rows[x as usize].deadline);
-        unlink(rows, ends, x);
-        append(rows, ends, x, to);
-        x = front(rows, ends, slot);
+impl WheelOrder {
+    // Empties a slot from its front as the tick ends: each entry goes to the end of the slot of its new place.
+    fn pour<P: Copy>(&mut self, rows: &mut [Row<P>], tick: u32, slot: u8)
+        requires waiting { Waiting tick rows.old }
+        requires slots { Slotted tick rows.old self.old.slots.ends }
+        requires turn { (tick < 16777215) × ((tick + 1) % 64 ≡ 0) × (slot ≡ source_of (tick + 1)) }
+        ensures slots { Slotted (tick + 1) rows.new self.new.slots.ends }
+        ensures contents { contents rows.new ≡ contents rows.old }
+    {
+        let count = rows.len() as u16;
+        let mut x = self.front(rows, slot);
+        while x < count {
+            let to = place(tick + 1, rows[x as usize].deadline);
+            self.slots.unlink(rows, x);
+            self.append(rows, x, to);
+            x = self.front(rows, slot);
+        }
     }
-}
 
-// Moves the entries whose places change as the tick ends: those of one slot, where the next tick has one to empty, and no others.
-pub(crate) fn cascade<P: Copy>(rows: &mut [Row<P>], ends: &mut [Ends], tick: u32)
-    requires waiting { Waiting tick rows.old }
-    requires slots { Slotted tick rows.old ends.old }
-    requires before { tick < 16777215 }
-    ensures slots { Slotted (tick + 1) rows.new ends.new }
-    ensures contents { contents rows.new ≡ contents rows.old }
-{
-    if let Some(slot) = source(tick + 1) {
-        pour(rows, ends, tick, slot);
+    // Moves the entries whose places change as the tick ends: those of one slot, where the next tick has one to empty, and no others.
+    pub(crate) fn cascade<P: Copy>(&mut self, rows: &mut [Row<P>], tick: u32)
+        requires waiting { Waiting tick rows.old }
+        requires slots { Slotted tick rows.old self.old.slots.ends }
+        requires before { tick < 16777215 }
+        ensures slots { Slotted (tick + 1) rows.new self.new.slots.ends }
+        ensures contents { contents rows.new ≡ contents rows.old }
+    {
+        if let Some(slot) = source(tick + 1) {
+            self.pour(rows, tick, slot);
+        }
     }
 }

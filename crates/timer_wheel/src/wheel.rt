@@ -1,20 +1,17 @@
 ghost use Rattle.timer_wheel.specs.Once.{placed_once};
 ghost use Rattle.timer_wheel.specs.Placed.{Placed};
 
-use crate::cascade::cascade;
-use crate::links::{append, front};
 use crate::place::place;
 use timer_order::order::Order;
 use timer_order::row_store::RowStore;
-use timer_rows::ends::Ends;
 use timer_rows::entries::{enter, leave};
 use timer_rows::ledger::Ledger;
-use timer_rows::links::{unlink, unlink_all};
+use timer_rows::links::Sentinels;
 use timer_rows::row::Row;
 use timer_rows::rows::vacant;
 
-// The last tick of every wheel: four digits of 63.
-const LAST: u32 = 16_777_215;
+/// The last tick of every wheel: four digits of 63.
+pub const LAST_TICK: u32 = 16_777_215;
 
 /// A timer store that keeps its entries in a hierarchical timing wheel of four levels of 64 slots, over rows that are lent to it.
 pub type Wheel<'a, P> = RowStore<'a, P, WheelOrder>;
@@ -22,23 +19,23 @@ pub type Wheel<'a, P> = RowStore<'a, P, WheelOrder>;
 /// The order of a timing wheel: each entry in the slot of its place, and the entries of a slot by their tickets.
 #[derive(Clone, Copy, Drop)]
 pub struct WheelOrder {
-    /// The sentinel of each slot, level by level.
-    pub(crate) ends: [Ends; 256],
+    /// The slots, level by level.
+    pub(crate) slots: Sentinels<256>,
 }
 
 impl<P: Copy> Order<P> for WheelOrder {
-    ghost Holds = { λ s rows l. Placed rows l s.ends };
+    ghost Holds = { λ s rows l. Placed rows l s.slots.ends };
 
     ghost last_of = { λ _. 16777215 };
 
     fn last_tick(_asked: u32) -> u32 {
-        LAST
+        LAST_TICK
     }
 
     fn empty(count: usize) -> Self {
-        let mut ends = [Ends { head: 0, tail: 0 }; 256];
-        unlink_all(&mut ends, count);
-        WheelOrder { ends }
+        WheelOrder {
+            slots: Sentinels::empty(count),
+        }
     }
 
     fn insert(
@@ -52,24 +49,24 @@ impl<P: Copy> Order<P> for WheelOrder {
         let slot = place(ledger.now, deadline);
         let x = vacant(rows, ledger);
         let ticket = enter(rows, ledger, x, deadline, owner, payload);
-        append(rows, &mut self.ends, x as u16, slot);
+        self.append(rows, x as u16, slot);
         ticket
     }
 
     fn remove(&mut self, rows: &mut [Row<P>], ledger: &mut Ledger, x: usize) {
-        unlink(rows, &mut self.ends, x as u16);
+        self.slots.unlink(rows, x as u16);
         leave(rows, ledger, x);
     }
 
     // The first row of the slot of the tick's lowest digit on level 0.
     fn first_due(&self, rows: &[Row<P>], ledger: &Ledger) -> Option<usize> {
-        let x = usize::from(front(rows, &self.ends, (ledger.now % 64) as u8));
+        let x = usize::from(self.front(rows, (ledger.now % 64) as u8));
         (x < rows.len()).then_some(x)
     }
 
     fn turn(&mut self, rows: &mut [Row<P>], ledger: &Ledger) {
-        cascade(rows, &mut self.ends, ledger.now - 1);
+        self.cascade(rows, ledger.now - 1);
     }
 
-    ghost once = { λ s rows l. placed_once rows l s.ends };
+    ghost once = { λ s rows l. placed_once rows l s.slots.ends };
 }

@@ -6,7 +6,7 @@ use Rattle.timer_list.proofs.list.ListOrder.spot.Goals as goal
 
 pub loop-node-init : goal.loop-node-init
 loop-node-init g c =
-    spot_begin c.args.rows.now c.args.self.now.ends c.requires _ c.args.deadline (head_link c.args.rows.now c.args.self.now.ends c.requires _)
+    spot_begin c.args.rows.now c.args.self.now.slots.ends c.requires _ c.args.deadline (head_link c.args.rows.now c.args.self.now.slots.ends c.requires _)
 
 pub returns-then-is_after : goal.returns-then-is_after
 returns-then-is_after g c =
@@ -17,14 +17,14 @@ returns-then-is_after g c =
 pub loop-node-smaller : goal.loop-node-smaller
 loop-node-smaller g c =
     let l : c.loop-node.node < length c.args.rows.now = omega arith in
-    spot_falls c.args.rows.now c.args.self.now.ends c.requires c.loop-node.node c.args.deadline l c.loop-node.invariant.0 _
-    (read_next c.args.rows.now c.loop-node.node c.index-rows-node.result c.index-rows-node.is l c.args.self.now.ends)
+    spot_falls c.args.rows.now c.args.self.now.slots.ends c.requires c.loop-node.node c.args.deadline l c.loop-node.invariant.0 _
+    (read_next c.args.rows.now c.loop-node.node c.index-rows-node.result c.index-rows-node.is l c.args.self.now.slots.ends)
 
 pub loop-node-preserved : goal.loop-node-preserved
 loop-node-preserved g c =
     let l : c.loop-node.node < length c.args.rows.now = omega arith in
     let d = read_deadline c.args.rows.now c.loop-node.node c.index-rows-node.result c.index-rows-node.is l in
     let w : c.index-rows-node.result.deadline ≤ c.args.deadline = ltb-false c.args.deadline c.index-rows-node.result.deadline (sym c.is_after.ensures ∙ c.if-is_after.false) in
-    spot_step c.args.rows.now c.args.self.now.ends c.requires c.loop-node.node c.args.deadline l c.loop-node.invariant.0 _
-    (read_next c.args.rows.now c.loop-node.node c.index-rows-node.result c.index-rows-node.is l c.args.self.now.ends)
+    spot_step c.args.rows.now c.args.self.now.slots.ends c.requires c.loop-node.node c.args.deadline l c.loop-node.invariant.0 _
+    (read_next c.args.rows.now c.loop-node.node c.index-rows-node.result c.index-rows-node.is l c.args.self.now.slots.ends)
     (omega (arith, d))

@@ -7,7 +7,7 @@ use Rattle.timer_list.proofs.list.ListOrder.spot.Given as goal
 abbrev pub invariant-loop-node : goal.invariant-loop-node
 invariant-loop-node g l =
     (get_or (homes l.rows) l.node 1 ≡ 0)
-    × (get_or (backs l.rows l.self.ends) l.node 0 < length l.rows → get_or (deadlines l.rows) (get_or (backs l.rows l.self.ends) l.node 0) 0 ≤ l.deadline)
+    × (get_or (backs l.rows l.self.slots.ends) l.node 0 < length l.rows → get_or (deadlines l.rows) (get_or (backs l.rows l.self.slots.ends) l.node 0) 0 ≤ l.deadline)
 
 -- keys rise along the list, up to a number above all of them at its end
 abbrev pub decreases-loop-node : goal.decreases-loop-node

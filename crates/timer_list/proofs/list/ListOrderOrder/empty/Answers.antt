@@ -1,4 +1,4 @@
-use Rattle.std.proofs.Common.{◌≡◌, ℕ, ◌+◌, ◌<◌, if◌then◌else◌, List, [], ◌∷◌, length, get_or, sym, refl, ap, ◌∙◌, arith}
+use Rattle.std.proofs.Common.{◌≡◌, ℕ, ◌+◌, ◌<◌, if◌then◌else◌, List, length, get_or, sym, ap, ◌∙◌, arith}
 use Rattle.std.proofs.lemmas.List.{length-append, length-map}
 use Rattle.std.proofs.lemmas.Bool.{eq-eqb}
 use Rattle.timer_rows.specs.declared.row.Row.{Row}
@@ -10,20 +10,17 @@ use Rattle.timer_list.proofs.Spots.{home_at, sentinel_home}
 use Rattle.timer_list.proofs.list.ListOrderOrder.empty.Goals as goal
 
 -- the sentinel leads to itself
-empty : {P : Type 0} (rows : List (Row P)) (n : ℕ) → length rows ≡ n → ((i : ℕ) → get_or (tickets rows) i 0 ≡ 0) → Sorted rows (record { head = n; tail = n } ∷ [])
-empty rows n e vacant =
-    let es : List Ends = record { head = n; tail = n } ∷ [] in
-    let blank : (s : ℕ) → s < 1 → get_or es s (record { head = 0; tail = 0 }) ≡ record { head = length rows + s; tail = length rows + s } = λ s l.
-    let z : s ≡ 0 = omega arith in
-    let q : length rows + s ≡ n = omega (arith, e) in
-    ap (λ i. get_or es i (record { head = 0; tail = 0 })) z ∙ ap (λ i. record { head = i; tail = i }) (sym q) in
+empty : {P : Type 0} (rows : List (Row P)) (es : List Ends) (n : ℕ) → length rows ≡ n → ((i : ℕ) → get_or (tickets rows) i 0 ≡ 0) → length es ≡ 1 → ((s : ℕ) → s < 1 → get_or es s (record { head = 0; tail = 0 }) ≡ record { head = n + s; tail = n + s }) → Sorted rows es
+empty rows es n e vacant le blank =
     let sentinel : (s : ℕ) → s < 1 → get_or (homes rows) (length rows + s) 1 ≡ s = λ s l.
     let z : s ≡ 0 = omega arith in
     ap (λ i. get_or (homes rows) i 1) (omega arith) ∙ sentinel_home rows ∙ sym z in
     let none : (i : ℕ) → i < length rows → get_or (homes rows) i 1 ≡ 1 = λ i l.
     home_at rows i l ∙ ap (λ b. if b then 1 else 0) (eq-eqb (get_or (tickets rows) i 0) 0 (vacant i)) in
+    let clear : (s : ℕ) → s < 1 → get_or es s (record { head = 0; tail = 0 }) ≡ record { head = length rows + s; tail = length rows + s } = λ s b.
+    blank s b ∙ ap (λ m. record { head = m + s; tail = m + s }) (sym e) in
     let long : length (homes rows) ≡ length rows + 1 = simp (length-append, length-map) in
-    linked_none rows es (homes rows) (keys rows) 1 refl long (length-map rows (λ r. key (entry_of r))) none sentinel blank
+    linked_none rows es (homes rows) (keys rows) 1 le long (length-map rows (λ r. key (entry_of r))) none sentinel clear
 
 pub returns : goal.returns
-returns g c = λ rows l asked e vacant k w. empty rows c.args.count e vacant
+returns g c = λ rows l asked e vacant k w. empty rows _ c.args.count e vacant c.empty.ensures.number c.empty.ensures.ends

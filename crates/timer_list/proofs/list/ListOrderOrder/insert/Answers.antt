@@ -17,13 +17,11 @@ link-requires g c =
     let x = c.vacant-x.result in
     let d = some_row rows x c.vacant-x.ensures.0 in
     let is = c.enter-ticket.ensures.rows d in
-    let b = backs_kept rows mid c.args.self.now.ends x _ d c.vacant-x.ensures.0 is refl in
+    let b = backs_kept rows mid c.args.self.now.slots.ends x _ d c.vacant-x.ensures.0 is refl in
     let l = c.enter-ticket.auto.rows in
-    let n = node_links rows c.args.ledger.now c.args.self.now.ends c.requires.kept c.requires.held c.spot-node.result c.spot-node.ensures.node in
-    record {
-      nodes = (omega (arith, c.vacant-x.ensures.0), omega (arith, n.0));
-      before = omega (arith, n.2, ap (λ col. get_or col c.spot-node.result 0) b);
-    }
+    let n = node_links rows c.args.ledger.now c.args.self.now.slots.ends c.requires.kept c.requires.held c.spot-node.result c.spot-node.ensures.node in
+    let before = ap (λ col. get_or col c.spot-node.result 0) b in
+    (omega arith, ((omega (arith, c.vacant-x.ensures.0), omega (arith, n.0)), omega (arith, n.2, before)))
 
 pub returns : goal.returns
 returns g c =
@@ -36,6 +34,6 @@ returns g c =
     record {
       ticket = c.enter-ticket.ensures.ticket;
       kept = same_kept mid c.link.new.rows c.enter-ticket.new.ledger c.link.ensures.contents c.enter-ticket.ensures.kept;
-      held = sorted_enter rows c.args.ledger.now c.args.self.now.ends c.requires.kept c.requires.held x c.spot-node.result c.args.deadline c.args.owner c.args.payload c.vacant-x.ensures.0 c.vacant-x.ensures.1 o c.spot-node.ensures d c.enter-ticket.result mid c.link.new.rows c.link.new.ends c.enter-ticket.ensures.ticket (c.enter-ticket.ensures.rows d) c.link.ensures.contents c.link.ensures.ons c.link.ensures.backs;
+      held = sorted_enter rows c.args.ledger.now c.args.self.now.slots.ends c.requires.kept c.requires.held x c.spot-node.result c.args.deadline c.args.owner c.args.payload c.vacant-x.ensures.0 c.vacant-x.ensures.1 o c.spot-node.ensures d c.enter-ticket.result mid c.link.new.rows c.link.new.self.ends c.enter-ticket.ensures.ticket (c.enter-ticket.ensures.rows d) c.link.ensures.contents c.link.ensures.ons c.link.ensures.backs;
       meant = same_meant mid c.link.new.rows c.enter-ticket.new.ledger c.link.ensures.contents ∙ c.enter-ticket.ensures.meant;
     }

@@ -9,8 +9,8 @@ use Rattle.timer_list.proofs.list.ListOrderOrder.remove.Goals as goal
 
 pub unlink-requires : goal.unlink-requires
 unlink-requires g c =
-    let n = node_links c.args.rows.now c.args.ledger.now c.args.self.now.ends c.requires.kept c.requires.held c.args.x (live_home c.args.rows.now c.args.x c.requires.live.0 c.requires.live.1) in
-    record { node = n.0; after = n.1; before = n.2 }
+    let n = node_links c.args.rows.now c.args.ledger.now c.args.self.now.slots.ends c.requires.kept c.requires.held c.args.x (live_home c.args.rows.now c.args.x c.requires.live.0 c.requires.live.1) in
+    (omega arith, (n.0, (n.1, n.2)))
 
 pub leave-requires : goal.leave-requires
 leave-requires g c =
@@ -30,7 +30,7 @@ returns g c =
     let t = same_column (λ e. e.ticket) rows mid same in
     record {
       kept = c.leave.ensures.kept;
-      held = sorted_leave rows c.args.ledger.now c.args.self.now.ends c.requires.kept c.requires.held c.args.x mid c.leave.new.rows c.unlink.new.ends c.requires.live.0 c.requires.live.1 same c.unlink.ensures.ons c.unlink.ensures.backs c.leave.ensures.rows;
+      held = sorted_leave rows c.args.ledger.now c.args.self.now.slots.ends c.requires.kept c.requires.held c.args.x mid c.leave.new.rows c.unlink.new.self.ends c.requires.live.0 c.requires.live.1 same c.unlink.ensures.ons c.unlink.ensures.backs c.leave.ensures.rows;
       meant =
           c.leave.ensures.meant
           ∙ ap (λ (m : Meaning g.row.P.Denot). with_pending m (without (get_or (tickets mid) c.args.x 0) (entries mid))) (same_meant rows mid c.args.ledger.now same)

@@ -22,7 +22,5 @@ empty rows es n t long vacant le blank =
     linked_none rows es (homes_by (home t) all_slots rows) (keys_by key rows) 256 le (homes_length (at_tick t) rows) (length-map rows (λ r. key (entry_of r))) none (λ s b. sentinel_home (at_tick t) rows s b) clear
 
 pub returns : goal.returns
-returns g c =
-    let le : length c.unlink_all.new.ends ≡ 256 = c.unlink_all.auto.ends in
-    λ rows l asked e vacant k w.
-    record { slots = empty rows _ c.args.count l.now e vacant le (λ s b. c.unlink_all.ensures s (omega (arith, le))); last = w }
+returns g c = λ rows l asked e vacant k w.
+    record { slots = empty rows _ c.args.count l.now e vacant c.empty.ensures.number c.empty.ensures.ends; last = w }

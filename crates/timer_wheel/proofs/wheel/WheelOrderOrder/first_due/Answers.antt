@@ -1,12 +1,11 @@
 use Rattle.std.proofs.Common.{◌∙◌}
 use Rattle.std.proofs.lemmas.Bool.{ltb-true, ltb-false}
 use Rattle.timer_order.proofs.Dues.{asked}
-use Rattle.timer_wheel.proofs.Homes.{all_ends}
 use Rattle.timer_wheel.proofs.Entering.{slot_empty, slot_first}
 use Rattle.timer_wheel.proofs.wheel.WheelOrderOrder.first_due.Goals as goal
 
 pub front-requires : goal.front-requires
-front-requires g c = (c.requires.kept.few, all_ends c.args.rows.now c.args.self.now.ends _ _ c.requires.held.slots)
+front-requires g c = c.requires.kept.few
 
 pub returns : goal.returns
 returns g c =
@@ -16,6 +15,6 @@ returns g c =
     let is = c.from-x.ensures ∙ c.front.ensures in
     rw c.then_some.ensures (
     asked rows l.now x _
-    (λ e. slot_first rows l c.args.self.now.ends c.requires.kept c.requires.held x is (ltb-true _ _ e))
-    (λ e. slot_empty rows l c.args.self.now.ends c.requires.kept c.requires.held x is (ltb-false _ _ e))
+    (λ e. slot_first rows l c.args.self.now.slots.ends c.requires.kept c.requires.held x is (ltb-true _ _ e))
+    (λ e. slot_empty rows l c.args.self.now.slots.ends c.requires.kept c.requires.held x is (ltb-false _ _ e))
     )

@@ -7,7 +7,7 @@ use Rattle.timer_rows.proofs.Same.{same_kept, same_meant}
 use Rattle.timer_wheel.specs.Place.{place_of}
 use Rattle.timer_wheel.specs.Placed.{all_slots, home, Slotted}
 use Rattle.timer_wheel.proofs.Places.{place_is, place_below}
-use Rattle.timer_wheel.proofs.Homes.{all_ends, sentinel_home, node_links}
+use Rattle.timer_wheel.proofs.Homes.{sentinel_home, node_links}
 use Rattle.timer_wheel.proofs.Pours.{at_tick}
 use Rattle.timer_wheel.proofs.Entering.{placed_enter}
 use Rattle.timer_wheel.proofs.wheel.WheelOrderOrder.insert.Goals as goal
@@ -21,7 +21,7 @@ append-requires g c =
     let rows = c.args.rows.now in
     let mid = c.enter-ticket.new.rows in
     let x = c.vacant-x.result in
-    let es = c.args.self.now.ends in
+    let es = c.args.self.now.slots.ends in
     let tick = c.args.ledger.now.now in
     let p : c.place-slot.result ≡ place_of c.args.ledger.now.now c.args.deadline = c.place-slot.ensures.value ∙ place_is tick c.args.deadline in
     let d = some_row rows x c.vacant-x.ensures.0 in
@@ -32,11 +32,10 @@ append-requires g c =
     let q : length c.enter-ticket.new.rows + c.place-slot.result ≡ length c.args.rows.now + place_of c.args.ledger.now.now c.args.deadline = omega (arith, p, l) in
     let z = ap (λ i. get_or (homes_by (home tick) all_slots rows) i 256) q ∙ sentinel_home (at_tick tick) rows (place_of tick c.args.deadline) f in
     let n = node_links rows es _ _ c.requires.held.slots (length c.enter-ticket.new.rows + c.place-slot.result) (omega (arith, z)) in
-    let e = all_ends rows es _ _ c.requires.held.slots in
     record {
-      few = (omega (arith, l, c.requires.kept.few), e);
+      few = omega (arith, l, c.requires.kept.few);
       row = omega (arith, l, c.vacant-x.ensures.0);
-      last = omega (arith, l, e, n.2, ap (λ col. get_or col (length c.enter-ticket.new.rows + c.place-slot.result) 0) b);
+      last = omega (arith, l, n.2, ap (λ col. get_or col (length c.enter-ticket.new.rows + c.place-slot.result) 0) b);
     }
 
 pub returns : goal.returns
@@ -48,12 +47,12 @@ returns g c =
     let q : length c.enter-ticket.new.rows + c.place-slot.result ≡ length c.args.rows.now + place_of c.args.ledger.now.now c.args.deadline = omega (arith, p, c.enter-ticket.auto.rows) in
     let d = some_row rows x c.vacant-x.ensures.0 in
     let m = c.enter-ticket.ensures.meant in
-    let s = placed_enter rows c.args.ledger.now c.args.self.now.ends c.requires.kept c.requires.held x _ c.enter-ticket.result c.args.deadline c.args.owner c.args.payload d mid c.append.new.rows c.append.new.ends c.vacant-x.ensures.0 c.vacant-x.ensures.1 q c.enter-ticket.ensures.ticket (c.enter-ticket.ensures.rows d) c.append.ensures.contents c.append.ensures.ons c.append.ensures.backs in
+    let s = placed_enter rows c.args.ledger.now c.args.self.now.slots.ends c.requires.kept c.requires.held x _ c.enter-ticket.result c.args.deadline c.args.owner c.args.payload d mid c.append.new.rows c.append.new.self.slots.ends c.vacant-x.ensures.0 c.vacant-x.ensures.1 q c.enter-ticket.ensures.ticket (c.enter-ticket.ensures.rows d) c.append.ensures.contents c.append.ensures.ons c.append.ensures.backs in
     record {
       ticket = c.enter-ticket.ensures.ticket;
       kept = same_kept mid c.append.new.rows c.enter-ticket.new.ledger c.append.ensures.contents c.enter-ticket.ensures.kept;
       held = record {
-        slots = subst (λ t. Slotted t c.append.new.rows c.append.new.ends) (sym (ap (λ m. m.now) m)) s;
+        slots = subst (λ t. Slotted t c.append.new.rows c.append.new.self.slots.ends) (sym (ap (λ m. m.now) m)) s;
         last = ap (λ m. m.last) m ∙ c.requires.held.last;
       };
       meant = same_meant mid c.append.new.rows c.enter-ticket.new.ledger c.append.ensures.contents ∙ m;

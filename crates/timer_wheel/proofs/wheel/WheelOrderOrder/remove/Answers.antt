@@ -10,8 +10,8 @@ use Rattle.timer_wheel.proofs.wheel.WheelOrderOrder.remove.Goals as goal
 
 pub unlink-requires : goal.unlink-requires
 unlink-requires g c =
-    let n = node_links c.args.rows.now c.args.self.now.ends _ _ c.requires.held.slots c.args.x (live_slot c.args.rows.now c.args.ledger.now c.args.self.now.ends c.requires.kept c.requires.held c.args.x c.requires.live.0 c.requires.live.1) in
-    record { node = n.0; after = n.1; before = n.2 }
+    let n = node_links c.args.rows.now c.args.self.now.slots.ends _ _ c.requires.held.slots c.args.x (live_slot c.args.rows.now c.args.ledger.now c.args.self.now.slots.ends c.requires.kept c.requires.held c.args.x c.requires.live.0 c.requires.live.1) in
+    (omega arith, (n.0, (n.1, n.2)))
 
 pub leave-requires : goal.leave-requires
 leave-requires g c =
@@ -32,7 +32,7 @@ returns g c =
     record {
       kept = c.leave.ensures.kept;
       held = record {
-        slots = subst (λ t. Slotted t c.leave.new.rows c.unlink.new.ends) (sym (ap (λ m. m.now) c.leave.ensures.meant)) (placed_leave rows c.args.ledger.now c.args.self.now.ends c.requires.kept c.requires.held c.args.x mid c.leave.new.rows c.unlink.new.ends c.requires.live.0 c.requires.live.1 same c.unlink.ensures.ons c.unlink.ensures.backs c.leave.ensures.rows);
+        slots = subst (λ t. Slotted t c.leave.new.rows c.unlink.new.self.ends) (sym (ap (λ m. m.now) c.leave.ensures.meant)) (placed_leave rows c.args.ledger.now c.args.self.now.slots.ends c.requires.kept c.requires.held c.args.x mid c.leave.new.rows c.unlink.new.self.ends c.requires.live.0 c.requires.live.1 same c.unlink.ensures.ons c.unlink.ensures.backs c.leave.ensures.rows);
         last = ap (λ m. m.last) c.leave.ensures.meant ∙ c.requires.held.last;
       };
       meant =

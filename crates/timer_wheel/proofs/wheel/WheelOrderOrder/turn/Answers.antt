@@ -12,7 +12,7 @@ cascade-requires g c =
     let e : b.0.now ≡ c.args.ledger.now.now - 1 = omega arith in
     record {
       waiting = waiting c.args.rows.now c.args.ledger.now _ k (omega arith) (omega (arith, b.2.last));
-      slots = subst (λ t. Slotted t c.args.rows.now c.args.self.now.ends) e b.2.slots;
+      slots = subst (λ t. Slotted t c.args.rows.now c.args.self.now.slots.ends) e b.2.slots;
       before = omega (arith, k.clock, b.2.last);
     }
 
@@ -24,7 +24,7 @@ returns g c =
     let e : c.args.ledger.now.now - 1 + 1 ≡ c.args.ledger.now.now = omega arith in
     record {
       held = record {
-        slots = subst (λ t. Slotted t c.cascade.new.rows c.cascade.new.ends) e c.cascade.ensures.slots;
+        slots = subst (λ t. Slotted t c.cascade.new.rows c.cascade.new.self.slots.ends) e c.cascade.ensures.slots;
         last = m ∙ b.2.last;
       };
       contents = c.cascade.ensures.contents;

@@ -5,17 +5,17 @@ use Rattle.timer_rows.specs.Rows.{tickets, deadlines}
 use Rattle.timer_rows.proofs.Pending.{deadline_at}
 use Rattle.timer_wheel.specs.Place.{place_of}
 use Rattle.timer_wheel.proofs.Places.{place_is}
-use Rattle.timer_wheel.proofs.Homes.{all_ends, node_links}
+use Rattle.timer_wheel.proofs.Homes.{node_links}
 use Rattle.timer_wheel.proofs.Pours.{same_waiting, begun, poured, row_slot, step, to_links, front_rises}
-use Rattle.timer_wheel.proofs.cascade.pour.Goals as goal
+use Rattle.timer_wheel.proofs.wheel.WheelOrder.pour.Goals as goal
 
 pub front-x-requires : goal.front-x-requires
-front-x-requires g c = (c.requires.waiting.few, all_ends c.args.rows.now c.args.ends.now _ _ c.requires.slots)
+front-x-requires g c = c.requires.waiting.few
 
 pub loop-x-init : goal.loop-x-init
 loop-x-init g c =
     let rows = c.args.rows.now in
-    (0, begun c.args.tick rows c.args.ends.now c.requires.slots, refl, c.front-x.ensures ∙ ap (λ s. get_or (ons rows c.args.ends.now) (length rows + s) 0) c.requires.turn.2)
+    (0, begun c.args.tick rows c.args.self.now.slots.ends c.requires.slots, refl, c.front-x.ensures ∙ ap (λ s. get_or (ons rows c.args.self.now.slots.ends) (length rows + s) 0) c.requires.turn.2)
 
 pub unlink-requires : goal.unlink-requires
 unlink-requires g c =
@@ -23,8 +23,8 @@ unlink-requires g c =
     let i = c.loop-x.invariant in
     let w = same_waiting c.args.tick c.args.rows.now rows i.2 c.requires.waiting in
     let l : c.loop-x.x < length c.loop-x.rows = omega (arith, c.loop-x-test.true, c.loop-x.auto.rows) in
-    let n = node_links rows c.loop-x.ends _ _ i.1 c.loop-x.x (row_slot c.args.tick c.requires.turn.1 rows w c.loop-x.ends i.0 i.1 c.loop-x.x i.3 l) in
-    record { node = n.0; after = n.1; before = n.2 }
+    let n = node_links rows c.loop-x.self.slots.ends _ _ i.1 c.loop-x.x (row_slot c.args.tick c.requires.turn.1 rows w c.loop-x.self.slots.ends i.0 i.1 c.loop-x.x i.3 l) in
+    (omega arith, (n.0, (n.1, n.2)))
 
 pub append-requires : goal.append-requires
 append-requires g c =
@@ -35,21 +35,19 @@ append-requires g c =
     let d = deadline_at rows c.loop-x.x c.index-rows-x.result l in
     let p : c.place-to.result ≡ place_of (c.args.tick + 1) (get_or (deadlines c.loop-x.rows) c.loop-x.x 0) = c.place-to.ensures.value ∙ place_is (c.args.tick + 1) (get_or c.loop-x.rows c.loop-x.x c.index-rows-x.result).deadline ∙ ap (place_of (c.args.tick + 1)) (sym d) in
     let q : length c.unlink.new.rows + c.place-to.result ≡ length c.loop-x.rows + place_of (c.args.tick + 1) (get_or (deadlines c.loop-x.rows) c.loop-x.x 0) = omega (arith, p, c.unlink.auto.rows) in
-    let t = to_links c.args.tick c.requires.turn.1 rows w c.loop-x.ends i.0 i.1 c.loop-x.x i.3 l _ q in
-    let e = all_ends rows c.loop-x.ends _ _ i.1 in
+    let t = to_links c.args.tick c.requires.turn.1 rows w c.loop-x.self.slots.ends i.0 i.1 c.loop-x.x i.3 l _ q in
     let b = ap (λ col. get_or col (length c.unlink.new.rows + c.place-to.result) 0) c.unlink.ensures.backs in
     let n = c.unlink.auto.rows in
     record {
-      few = (omega (arith, n, w.few), c.unlink.auto.ends ∙ e);
+      few = omega (arith, n, w.few);
       row = omega (arith, n, l);
       last = omega (arith, b, n, t.1);
     }
 
 pub front-x-requires-in-loop-x : goal.front-x-requires-in-loop-x
 front-x-requires-in-loop-x g c =
-    let e = all_ends c.args.rows.now c.args.ends.now _ _ c.requires.slots in
     let n : length c.append.new.rows ≡ length c.args.rows.now = c.append.auto.rows ∙ c.unlink.auto.rows ∙ c.loop-x.auto.rows in
-    (omega (arith, n, c.requires.waiting.few), c.append.auto.ends ∙ c.unlink.auto.ends ∙ c.loop-x.auto.ends ∙ e)
+    omega (arith, n, c.requires.waiting.few)
 
 pub loop-x-preserved : goal.loop-x-preserved
 loop-x-preserved g c =
@@ -61,9 +59,9 @@ loop-x-preserved g c =
     let p : c.place-to.result ≡ place_of (c.args.tick + 1) (get_or (deadlines c.loop-x.rows) c.loop-x.x 0) = c.place-to.ensures.value ∙ place_is (c.args.tick + 1) (get_or c.loop-x.rows c.loop-x.x c.index-rows-x.result).deadline ∙ ap (place_of (c.args.tick + 1)) (sym d) in
     let q : length c.unlink.new.rows + c.place-to.result ≡ length c.loop-x.rows + place_of (c.args.tick + 1) (get_or (deadlines c.loop-x.rows) c.loop-x.x 0) = omega (arith, p, c.unlink.auto.rows) in (
       get_or (tickets rows) c.loop-x.x 0 + 1,
-      step c.args.tick c.requires.turn.1 rows w c.loop-x.ends i.0 i.1 c.loop-x.x i.3 l c.unlink.new.rows c.append.new.rows c.unlink.new.ends c.append.new.ends _ q c.unlink.ensures.contents c.unlink.ensures.ons c.unlink.ensures.backs c.append.ensures.contents c.append.ensures.ons c.append.ensures.backs,
+      step c.args.tick c.requires.turn.1 rows w c.loop-x.self.slots.ends i.0 i.1 c.loop-x.x i.3 l c.unlink.new.rows c.append.new.rows c.unlink.new.self.ends c.append.new.self.slots.ends _ q c.unlink.ensures.contents c.unlink.ensures.ons c.unlink.ensures.backs c.append.ensures.contents c.append.ensures.ons c.append.ensures.backs,
       c.append.ensures.contents ∙ c.unlink.ensures.contents ∙ i.2,
-      c.front-x-in-loop-x.ensures ∙ ap (λ s. get_or (ons c.append.new.rows c.append.new.ends) (length c.append.new.rows + s) 0) c.requires.turn.2,
+      c.front-x-in-loop-x.ensures ∙ ap (λ s. get_or (ons c.append.new.rows c.append.new.self.slots.ends) (length c.append.new.rows + s) 0) c.requires.turn.2,
     )
 
 pub loop-x-smaller : goal.loop-x-smaller
@@ -76,7 +74,7 @@ loop-x-smaller g c =
     let s = (same_waiting c.args.tick c.args.rows.now rows i.2 c.requires.waiting).small c.loop-x.x in
     let l : c.loop-x.x < length (tickets c.loop-x.rows) = omega (arith, c.loop-x-test.true, c.loop-x.auto.rows, length-map rows (λ r. r.ticket)) in
     let e = get_or_default (tickets rows) c.loop-x.x 4294967296 0 l in
-    let f = front_rises c.args.tick c.requires.turn.1 c.append.new.rows w c.append.new.ends (get_or (tickets rows) c.loop-x.x 0 + 1) a.1 c.front-x-in-loop-x.result (get_or (tickets rows) c.loop-x.x 0) a.3 (omega arith) s in
+    let f = front_rises c.args.tick c.requires.turn.1 c.append.new.rows w c.append.new.self.slots.ends (get_or (tickets rows) c.loop-x.x 0 + 1) a.1 c.front-x-in-loop-x.result (get_or (tickets rows) c.loop-x.x 0) a.3 (omega arith) s in
     omega (arith, e, f)
 
 pub returns : goal.returns
@@ -85,6 +83,6 @@ returns g c =
     let i = c.loop-x.invariant in
     let w = same_waiting c.args.tick c.args.rows.now rows i.2 c.requires.waiting in
     record {
-      slots = poured c.args.tick c.requires.turn.1 rows w c.loop-x.ends i.0 i.1 (omega (arith, c.loop-x-test.false, c.loop-x.auto.rows, i.3));
+      slots = poured c.args.tick c.requires.turn.1 rows w c.loop-x.self.slots.ends i.0 i.1 (omega (arith, c.loop-x-test.false, c.loop-x.auto.rows, i.3));
       contents = i.2;
     }

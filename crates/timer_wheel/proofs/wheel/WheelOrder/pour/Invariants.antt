@@ -3,14 +3,14 @@ use Rattle.timer_rows.specs.Links.{ons}
 use Rattle.timer_rows.specs.Rows.{tickets, contents}
 use Rattle.timer_wheel.specs.Place.{source_of}
 use Rattle.timer_wheel.specs.Pouring.{Midway}
-use Rattle.timer_wheel.proofs.cascade.pour.Given as goal
+use Rattle.timer_wheel.proofs.wheel.WheelOrder.pour.Given as goal
 
 abbrev pub invariant-loop-x : goal.invariant-loop-x
 invariant-loop-x g l =
     (k : ℕ)
-    × (Midway l.tick k l.rows l.ends)
+    × (Midway l.tick k l.rows l.self.slots.ends)
     × (contents l.rows ≡ contents l.initial.rows)
-    × (l.x ≡ get_or (ons l.rows l.ends) (length l.rows + source_of (l.tick + 1)) 0)
+    × (l.x ≡ get_or (ons l.rows l.self.slots.ends) (length l.rows + source_of (l.tick + 1)) 0)
 
 -- the tickets at the front rise, up to a number above all of them
 abbrev pub decreases-loop-x : goal.decreases-loop-x

@@ -1,7 +1,7 @@
 use Rattle.std.proofs.Common.{◌+◌, refl}
 use Rattle.timer_wheel.proofs.Places.{turn_comes, no_turn}
 use Rattle.timer_wheel.proofs.Pours.{still}
-use Rattle.timer_wheel.proofs.cascade.cascade.Goals as goal
+use Rattle.timer_wheel.proofs.wheel.WheelOrder.cascade.Goals as goal
 
 pub pour-requires : goal.pour-requires
 pour-requires g c =
@@ -10,4 +10,4 @@ pour-requires g c =
 
 pub returns-in_default : goal.returns-in_default
 returns-in_default g c =
-    record { slots = still c.args.tick c.args.rows.now c.args.ends.now (no_turn (c.args.tick + 1) c.in_default.ensures) c.requires.slots; contents = refl }
+    record { slots = still c.args.tick c.args.rows.now c.args.self.now.slots.ends (no_turn (c.args.tick + 1) c.in_default.ensures) c.requires.slots; contents = refl }
