@@ -1,4 +1,5 @@
 pub mod Places
+pub mod Levels
 pub mod Homes
 pub mod Pours
 pub mod Entering
