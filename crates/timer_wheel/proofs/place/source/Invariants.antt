@@ -1,4 +1,4 @@
-use Rattle.std.proofs.Common.{◌≡◌, ℕ, ◌<◌, ◌≤◌}
+use Rattle.std.proofs.Common.{◌≡◌, ℕ, ◌<◌}
 use Rattle.timer_wheel.specs.Place.{digit}
 use Rattle.timer_wheel.proofs.place.source.Given as goal
 
