@@ -4,4 +4,5 @@ pub mod call;
 pub mod expired;
 pub mod fault;
 pub mod history;
+pub mod owners;
 pub mod store;

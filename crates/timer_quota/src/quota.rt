@@ -1,4 +1,4 @@
-ghost use Rattle.std.specs.Prelude.{◌≡◌, if◌then◌else◌, nat_lt, slice_index};
+ghost use Rattle.std.specs.Prelude.{◌≡◌};
 
 /// A layer over a timer store, or over another layer, that holds each owner to a number of pending entries.
 #[derive(Drop)]
@@ -16,14 +16,5 @@ impl<'s, S> Quota<'s, S> {
         ensures lender { result.inner.ghost_name ≡ inner.entry.ghost_name }
     {
         Quota { inner, numbers }
-    }
-
-    // The owner's number; 0 for an owner above 63.
-    pub(crate) fn number(&self, owner: u8) -> usize
-        ensures { result ≡ (if nat_lt owner 64 then slice_index self.now.numbers owner else 0) }
-    {
-        self.numbers
-            .get(usize::from(owner))
-            .map_or(0, |number| usize::from(*number))
     }
 }

@@ -4,6 +4,7 @@ ghost use Rattle.timer_quota.specs.Quota.{limited, limited_sound};
 use crate::quota::Quota;
 use timer::expired::Expired;
 use timer::fault::TimerFault;
+use timer::owners::number_of;
 use timer::store::Store;
 
 impl<'s, P: Copy, S: Store<P>> Store<P> for Quota<'s, S> {
@@ -42,7 +43,7 @@ impl<'s, P: Copy, S: Store<P>> Store<P> for Quota<'s, S> {
     }
 
     fn limit(&self, owner: u8) -> usize {
-        self.number(owner).min(self.inner.limit(owner))
+        number_of(&self.numbers, owner).min(self.inner.limit(owner))
     }
 
     fn count(&self, owner: u8) -> usize {
@@ -50,7 +51,7 @@ impl<'s, P: Copy, S: Store<P>> Store<P> for Quota<'s, S> {
     }
 
     fn check(&self, deadline: u32, owner: u8) -> Option<TimerFault> {
-        let at_number = self.count(owner) >= self.number(owner);
+        let at_number = self.count(owner) >= number_of(&self.numbers, owner);
         let own = at_number.then_some(TimerFault::Limit);
         self.inner.check(deadline, owner).or(own)
     }

@@ -67,15 +67,6 @@ impl Ledger {
         Ok(())
     }
 
-    /// How many entries of the owner are pending; 0 for an owner above 63.
-    pub fn count(&self, owner: u8) -> usize
-        ensures { result ≡ (if nat_lt owner 64 then slice_index self.entry.now.counts owner else 0) }
-    {
-        self.counts
-            .get(usize::from(owner))
-            .map_or(0, |count| usize::from(*count))
-    }
-
     /// Counts one more entry of the owner, and answers its ticket.
     pub fn raise(&mut self, owner: u8) -> u32
         requires known { owner < 64 }

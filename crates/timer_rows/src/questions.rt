@@ -7,6 +7,7 @@ use crate::entries;
 use crate::ledger::Ledger;
 use crate::row::Row;
 use timer::fault::TimerFault;
+use timer::owners::number_of;
 
 /// How many of the rows that were lent a store uses: all of them, but at most 4,096.
 pub fn capacity<P: Copy>(rows: &[Row<P>]) -> usize
@@ -36,7 +37,7 @@ pub fn count<P: Copy>(rows: &[Row<P>], ledger: &Ledger, owner: u8) -> usize
     requires { ∥ Kept (used rows.now) ledger.now ∥₁ }
     ensures { result ≡ count_rule (meant (used rows.now) ledger.entry.now) owner }
 {
-    ledger.count(owner)
+    number_of(&ledger.counts, owner)
 }
 
 /// The lowest refusal of a start with this deadline and owner, or `None`.

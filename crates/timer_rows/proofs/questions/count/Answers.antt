@@ -14,4 +14,4 @@ counted rows l o k =
 
 pub returns : goal.returns
 returns g c =
-    c.count.ensures ∙ counted (used c.args.rows.now) c.args.ledger.now c.args.owner (kept_out (used c.args.rows.now) c.args.ledger.now c.requires)
+    c.number_of.ensures ∙ counted (used c.args.rows.now) c.args.ledger.now c.args.owner (kept_out (used c.args.rows.now) c.args.ledger.now c.requires)
