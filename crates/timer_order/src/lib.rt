@@ -1,6 +1,6 @@
 #![tactic(auto)]
 
-pub mod calls;
+mod calls;
 pub mod order;
 pub mod row_store;
 pub mod store;
