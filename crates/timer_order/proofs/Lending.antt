@@ -13,7 +13,7 @@ use Rattle.timer_rows.proofs.Props.{kept_out}
 
 module _ {P : Type 0} (rows : List (Row P)) (n : ℕ) (is : n ≡ min (length rows) 4096) where
   -- what holds of the rows that are used holds of the part that is handed on
-  part_of : (Q : List (Row P) → Type 0) → Q (used rows) → Q (take (n - 0) rows)
+  pub part_of : (Q : List (Row P) → Type 0) → Q (used rows) → Q (take (n - 0) rows)
   part_of Q q = subst Q (sym (part_used rows n is)) q
 
   pub part_kept : (l : Ledger) → ∥ Kept (used rows) l ∥₁ → Kept (take (n - 0) rows) l
@@ -22,14 +22,11 @@ module _ {P : Type 0} (rows : List (Row P)) (n : ℕ) (is : n ≡ min (length ro
   pub part_held : {O : Type 0} (H : O → List (Row P) → Ledger → Type 0) (once : (o : O) (z : List (Row P)) (l : Ledger) → IsProp (H o z l)) (o : O) (l : Ledger) → ∥ H o (used rows) l ∥₁ → H o (take (n - 0) rows) l
   part_held H once o l h = part_of (λ z. H o z l) (∥∥₁_elim h (once o (used rows) l) (λ q. q))
 
-  -- what the call answered is what the rule says of all the rows
-  pub lent_answer : {A : Type 0} (rule : Meaning P → Outcome A P) (l : Ledger) (r : A) → r ≡ (rule (meant (take (n - 0) rows) l)).answer → r ≡ (rule (meant (used rows) l)).answer
-  lent_answer rule l r e = subst (λ z. r ≡ (rule (meant z l)).answer) (part_used rows n is) e
+  -- and what was found in that part holds of the rows that are used
+  pub used_of : (Q : List (Row P) → Type 0) → Q (take (n - 0) rows) → Q (used rows)
+  used_of Q q = subst Q (part_used rows n is) q
 
   -- what the call left
   module _ (ys : List (Row P)) (same : length ys ≡ length (take (n - 0) rows)) where
     pub whole_of : (Q : List (Row P) → Type 0) → Q ys → Q (used (ys ++ post_of 0 (n - 0) rows))
     whole_of Q q = subst Q (sym (used_after rows n is ys same)) q
-
-    pub lent_after : {A : Type 0} (rule : Meaning P → Outcome A P) (l l' : Ledger) → meant ys l' ≡ (rule (meant (take (n - 0) rows) l)).after → meant (used (ys ++ post_of 0 (n - 0) rows)) l' ≡ (rule (meant (used rows) l)).after
-    lent_after rule l l' e = used_both rows n is ys same (λ a b. meant b l' ≡ (rule (meant a l)).after) e

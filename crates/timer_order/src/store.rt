@@ -1,4 +1,3 @@
-use crate::calls;
 use crate::order::Order;
 use crate::row_store::RowStore;
 use timer::expired::Expired;
@@ -8,10 +7,12 @@ use timer_rows::entries::clear;
 use timer_rows::ledger::Ledger;
 use timer_rows::questions;
 use timer_rows::row::Row;
+use timer_rows::rows::row_of;
 
 impl<'a, P: Copy, O: Order<P>> RowStore<'a, P, O> {
-    ghost use Rattle.std.specs.Prelude.{◌≡◌, min, [], ◌∷◌, length, replicate};
-    ghost use Rattle.timer_rows.specs.Rows.{used, unused, meant};
+    ghost use Rattle.std.specs.Prelude.{◌≡◌, ◌<◌, ◌≢◌, min, [], ◌∷◌, length, replicate, None, MatchOption, slice_index, slice_index_or};
+    ghost use Rattle.timer.specs.Rules.{find, with_pending, without};
+    ghost use Rattle.timer_rows.specs.Rows.{used, unused, tickets, entries, meant, NoneDue, Foremost};
 
     /// A store with nothing pending over the rows, whatever they hold; its last tick is the order's for the one that is asked for, and a first tick above it counts as the last.
     pub fn new(rows: &'a mut [Row<P>], first: u32, last: u32) -> Self
@@ -35,13 +36,44 @@ impl<'a, P: Copy, O: Order<P>> RowStore<'a, P, O> {
     {
         questions::capacity(self.rows)
     }
+
+    // The row of the pending entry with the ticket.
+    fn row_of(&self, ticket: u32) -> Option<usize>
+        ensures { MatchOption result (find ticket (entries (used self.now.rows.now)) ≡ None) (λ x. (x < length (used self.now.rows.now)) × (slice_index (tickets (used self.now.rows.now)) x ≡ ticket) × (ticket ≢ 0)) }
+    {
+        let n = self.used();
+        row_of(&self.rows[0..n], ticket)
+    }
+
+    // The row of the due entry with the lowest ticket, if an entry is due.
+    fn first_due(&self) -> Option<usize>
+        ensures { MatchOption result (NoneDue self.now.ledger.now (used self.now.rows.now)) (λ x. Foremost self.now.ledger.now (used self.now.rows.now) x) }
+    {
+        let n = self.used();
+        self.order.first_due(&self.rows[0..n], &self.ledger)
+    }
+
+    // Gives up the entry of a row, and answers the row as it was.
+    fn remove(&mut self, x: usize) -> Row<P>
+        requires { (x < length (used self.old.rows.now)) × (slice_index (tickets (used self.old.rows.now)) x ≢ 0) }
+        ensures row { result ≡ slice_index_or (used self.old.rows.now) x result }
+        ensures after { meant (used self.new.rows.now) self.new.ledger ≡ with_pending (meant (used self.old.rows.now) self.old.ledger) (without (slice_index (tickets (used self.old.rows.now)) x) (entries (used self.old.rows.now))) }
+        ensures unused { unused self.new.rows.now ≡ unused self.old.rows.now }
+        ensures lender { self.new.rows.ghost_name ≡ self.old.rows.ghost_name }
+    {
+        let n = self.used();
+        let row = self.rows[x];
+        self.order.remove(&mut self.rows[0..n], &mut self.ledger, x);
+        row
+    }
 }
 
 impl<'a, P: Copy, O: Order<P>> Store<P> for RowStore<'a, P, O> {
-    ghost use Rattle.std.specs.Prelude.{◌≡◌, [], ◌∷◌};
+    ghost use Rattle.std.specs.Prelude.{◌≡◌, false, [], ◌∷◌};
     ghost use mathlib.Core.List as lists;
     ghost use Rattle.timer_rows.proofs.Sounds.{meant_sound};
-    ghost use Rattle.timer_rows.specs.Rows.{used, unused, meant};
+    ghost use Rattle.timer.specs.Rules.{due_rule};
+    ghost use Rattle.timer_rows.specs.Rows.{used, unused, meant, NoneDue};
     ghost use Rattle.timer_rows.specs.declared.row.Row as row;
 
     ghost meaning = { λ s. meant (used s.rows.now) s.ledger };
@@ -74,9 +106,11 @@ impl<'a, P: Copy, O: Order<P>> Store<P> for RowStore<'a, P, O> {
         questions::pending(self.rows, &self.ledger)
     }
 
-    fn due(&self) -> bool {
-        let n = self.used();
-        calls::due(&self.order, &self.rows[0..n], &self.ledger)
+    fn due(&self) -> bool
+        ensures value { result ≡ due_rule (meant (used self.now.rows.now) self.now.ledger) }
+        ensures none { result ≡ false → NoneDue self.now.ledger.now (used self.now.rows.now) }
+    {
+        self.first_due().is_some()
     }
 
     fn limit(&self, owner: u8) -> usize {
@@ -92,42 +126,42 @@ impl<'a, P: Copy, O: Order<P>> Store<P> for RowStore<'a, P, O> {
     }
 
     fn start(&mut self, deadline: u32, owner: u8, payload: P) -> Result<u32, TimerFault> {
-        let n = self.used();
-        let RowStore {
-            rows,
-            ledger,
-            order,
-        } = self;
-        calls::start(order, &mut rows[0..n], ledger, deadline, owner, payload)
+        match self.check(deadline, owner) {
+            Some(fault) => Err(fault),
+            None => {
+                let n = self.used();
+                let rows = &mut self.rows[0..n];
+                Ok(
+                    self.order
+                        .insert(rows, &mut self.ledger, deadline, owner, payload),
+                )
+            }
+        }
     }
 
     fn stop(&mut self, ticket: u32) -> Result<(u8, P), TimerFault> {
-        let n = self.used();
-        let RowStore {
-            rows,
-            ledger,
-            order,
-        } = self;
-        calls::stop(order, &mut rows[0..n], ledger, ticket)
+        let x = self.row_of(ticket).ok_or(TimerFault::Missing)?;
+        let row = self.remove(x);
+        Ok((row.owner, row.payload))
     }
 
     fn take(&mut self) -> Option<Expired<P>> {
-        let n = self.used();
-        let RowStore {
-            rows,
-            ledger,
-            order,
-        } = self;
-        calls::take(order, &mut rows[0..n], ledger)
+        let x = self.first_due()?;
+        let row = self.remove(x);
+        Some(Expired {
+            ticket: row.ticket,
+            owner: row.owner,
+            payload: row.payload,
+        })
     }
 
     fn advance(&mut self) -> Result<(), TimerFault> {
+        if self.due() {
+            return Err(TimerFault::Due);
+        }
         let n = self.used();
-        let RowStore {
-            rows,
-            ledger,
-            order,
-        } = self;
-        calls::advance(order, &mut rows[0..n], ledger)
+        self.ledger.tick()?;
+        self.order.turn(&mut self.rows[0..n], &self.ledger);
+        Ok(())
     }
 }

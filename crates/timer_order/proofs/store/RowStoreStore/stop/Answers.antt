@@ -1,36 +1,23 @@
-use Rattle.timer.specs.Rules.{stop_rule}
-use Rattle.timer_rows.proofs.Parts.{unused_after}
-use Rattle.timer_rows.specs.Kept.{Kept}
-use Rattle.timer_order.proofs.Lending.{part_kept, part_held, lent_answer, lent_after, whole_of}
+use Rattle.std.proofs.Common.{◌≡◌, ℕ, ◌<◌, ◌≢◌, List, length, get_or, Some, None, Option, MatchOption, sym, ap, ◌∙◌, subst}
+use Rattle.timer.specs.Rules.{find}
+use Rattle.timer_rows.specs.declared.row.Row.{Row}
+use Rattle.timer_rows.specs.Rows.{tickets, entries, used}
+use Rattle.timer_rows.proofs.Props.{kept_out}
+use Rattle.timer_rows.proofs.Rulings.{stop_some, stop_after}
 use Rattle.timer_order.proofs.store.RowStoreStore.stop.Goals as goal
 
-pub stop-requires : goal.stop-requires
-stop-requires g c =
-    let s = c.args.self.now in
-    record {
-      kept = part_kept s.rows.now c.used-n.result c.used-n.ensures.value s.ledger s.kept;
-      held = part_held s.rows.now c.used-n.result c.used-n.ensures.value g.O.Order.Holds g.met.O.Order.once s.order s.ledger s.held;
-    }
-
-pub invariant_of-self : goal.invariant_of-self
-invariant_of-self g c =
-    let s = c.args.self.now in
-    let ys = c.stop.new.rows in
-    record {
-      kept = ∣ whole_of s.rows.now c.used-n.result c.used-n.ensures.value ys c.stop.auto.rows (λ z. Kept z c.stop.new.ledger) c.stop.ensures.kept ∣₁;
-      held = ∣ whole_of s.rows.now c.used-n.result c.used-n.ensures.value ys c.stop.auto.rows (λ z. g.O.Order.Holds c.stop.new.order z c.stop.new.ledger) c.stop.ensures.held ∣₁;
-    }
+found : {P : Type 0} (rows : List (Row P)) (t x : ℕ) (r : Option ℕ) → r ≡ Some x → MatchOption r (find t (entries rows) ≡ None) (λ i. (i < length rows) × (get_or (tickets rows) i 0 ≡ t) × (t ≢ 0)) → (x < length rows) × (get_or (tickets rows) x 0 ≡ t) × (t ≢ 0)
+found rows t x r e m =
+    subst (λ o. MatchOption o (find t (entries rows) ≡ None) (λ i. (i < length rows) × (get_or (tickets rows) i 0 ≡ t) × (t ≢ 0))) e m
 
 pub returns-clause-answer : goal.returns-clause-answer
 returns-clause-answer g c =
     let s = c.args.self.now in
-    lent_answer s.rows.now c.used-n.result c.used-n.ensures.value (λ m. stop_rule m c.args.ticket) s.ledger c.stop.result c.stop.ensures.answer
+    let f = found (used s.rows.now) c.args.ticket c.in_ok-x.x _ c.in_ok-x.ensures.ok_part c.row_of.ensures in
+    sym (ap (λ o. o.answer) (stop_some (used s.rows.now) s.ledger (kept_out (used s.rows.now) s.ledger s.kept) c.in_ok-x.x c.remove-row.result c.remove-row.ensures.row f.0 c.args.ticket f.1 f.2))
 
 pub returns-clause-after : goal.returns-clause-after
 returns-clause-after g c =
     let s = c.args.self.now in
-    lent_after s.rows.now c.used-n.result c.used-n.ensures.value c.stop.new.rows c.stop.auto.rows (λ m. stop_rule m c.args.ticket) s.ledger c.stop.new.ledger c.stop.ensures.after
-
-pub returns-clause-beyond : goal.returns-clause-beyond
-returns-clause-beyond g c =
-    unused_after c.args.self.now.rows.now c.used-n.result c.used-n.ensures.value c.stop.new.rows c.stop.auto.rows
+    let f = found (used s.rows.now) c.args.ticket c.in_ok-x.x _ c.in_ok-x.ensures.ok_part c.row_of.ensures in
+    c.remove-row.ensures.after ∙ stop_after (used s.rows.now) s.ledger (kept_out (used s.rows.now) s.ledger s.kept) c.in_ok-x.x c.remove-row.result c.remove-row.ensures.row f.0 c.args.ticket f.1 f.2

@@ -1,36 +1,27 @@
-use Rattle.timer.specs.Rules.{take_rule}
-use Rattle.timer_rows.proofs.Parts.{unused_after}
-use Rattle.timer_rows.specs.Kept.{Kept}
-use Rattle.timer_order.proofs.Lending.{part_kept, part_held, lent_answer, lent_after, whole_of}
+use Rattle.std.proofs.Common.{sym, ap, ◌∙◌}
+use Rattle.timer_rows.specs.Rows.{used}
+use Rattle.timer_rows.proofs.Props.{kept_out}
+use Rattle.timer_rows.proofs.Rulings.{take_none, take_some, take_after}
 use Rattle.timer_order.proofs.store.RowStoreStore.take.Goals as goal
 
-pub take-requires : goal.take-requires
-take-requires g c =
+pub returns-in_err-x-clause-answer : goal.returns-in_err-x-clause-answer
+returns-in_err-x-clause-answer g c =
     let s = c.args.self.now in
-    record {
-      kept = part_kept s.rows.now c.used-n.result c.used-n.ensures.value s.ledger s.kept;
-      held = part_held s.rows.now c.used-n.result c.used-n.ensures.value g.O.Order.Holds g.met.O.Order.once s.order s.ledger s.held;
-    }
+    c.from_residual.ensures ∙ sym (ap (λ o. o.answer) (take_none (used s.rows.now) s.ledger c.in_err-x.ensures))
 
-pub invariant_of-self : goal.invariant_of-self
-invariant_of-self g c =
+pub returns-in_err-x-clause-after : goal.returns-in_err-x-clause-after
+returns-in_err-x-clause-after g c =
     let s = c.args.self.now in
-    let ys = c.take.new.rows in
-    record {
-      kept = ∣ whole_of s.rows.now c.used-n.result c.used-n.ensures.value ys c.take.auto.rows (λ z. Kept z c.take.new.ledger) c.take.ensures.kept ∣₁;
-      held = ∣ whole_of s.rows.now c.used-n.result c.used-n.ensures.value ys c.take.auto.rows (λ z. g.O.Order.Holds c.take.new.order z c.take.new.ledger) c.take.ensures.held ∣₁;
-    }
+    sym (ap (λ o. o.after) (take_none (used s.rows.now) s.ledger c.in_err-x.ensures))
 
 pub returns-clause-answer : goal.returns-clause-answer
 returns-clause-answer g c =
     let s = c.args.self.now in
-    lent_answer s.rows.now c.used-n.result c.used-n.ensures.value take_rule s.ledger c.take.result c.take.ensures.answer
+    let f = c.in_ok-x.ensures in
+    sym (ap (λ o. o.answer) (take_some (used s.rows.now) s.ledger (kept_out (used s.rows.now) s.ledger s.kept) c.in_ok-x.x c.remove-row.result c.remove-row.ensures.row f.row f))
 
 pub returns-clause-after : goal.returns-clause-after
 returns-clause-after g c =
     let s = c.args.self.now in
-    lent_after s.rows.now c.used-n.result c.used-n.ensures.value c.take.new.rows c.take.auto.rows take_rule s.ledger c.take.new.ledger c.take.ensures.after
-
-pub returns-clause-beyond : goal.returns-clause-beyond
-returns-clause-beyond g c =
-    unused_after c.args.self.now.rows.now c.used-n.result c.used-n.ensures.value c.take.new.rows c.take.auto.rows
+    let f = c.in_ok-x.ensures in
+    c.remove-row.ensures.after ∙ take_after (used s.rows.now) s.ledger (kept_out (used s.rows.now) s.ledger s.kept) c.in_ok-x.x c.remove-row.result c.remove-row.ensures.row f.row f
