@@ -2,13 +2,11 @@
 use Rattle.std.proofs.Common.{◌≡◌, ℕ, ◌-◌, min, List, ◌++◌, length, take, sym, subst}
 use mathlib.Core.Logic.{∥∥₁_elim}
 use borrow.Rule.Slice.PartMut.{post_of}
-use Rattle.timer.specs.Meaning.{Meaning}
-use Rattle.timer.specs.Rules.{Outcome}
 use Rattle.timer_rows.specs.declared.ledger.Ledger.{Ledger}
 use Rattle.timer_rows.specs.declared.row.Row.{Row}
 use Rattle.timer_rows.specs.Kept.{Kept}
-use Rattle.timer_rows.specs.Rows.{used, meant}
-use Rattle.timer_rows.proofs.Parts.{part_used, used_after, used_both}
+use Rattle.timer_rows.specs.Rows.{used}
+use Rattle.timer_rows.proofs.Parts.{part_used, used_after}
 use Rattle.timer_rows.proofs.Props.{kept_out}
 
 module _ {P : Type 0} (rows : List (Row P)) (n : ℕ) (is : n ≡ min (length rows) 4096) where

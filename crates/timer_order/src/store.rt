@@ -126,17 +126,13 @@ impl<'a, P: Copy, O: Order<P>> Store<P> for RowStore<'a, P, O> {
     }
 
     fn start(&mut self, deadline: u32, owner: u8, payload: P) -> Result<u32, TimerFault> {
-        match self.check(deadline, owner) {
-            Some(fault) => Err(fault),
-            None => {
-                let n = self.used();
-                let rows = &mut self.rows[0..n];
-                Ok(
-                    self.order
-                        .insert(rows, &mut self.ledger, deadline, owner, payload),
-                )
-            }
+        if let Some(fault) = self.check(deadline, owner) {
+            return Err(fault);
         }
+        let n = self.used();
+        let rows = &mut self.rows[0..n];
+        let ledger = &mut self.ledger;
+        Ok(self.order.insert(rows, ledger, deadline, owner, payload))
     }
 
     fn stop(&mut self, ticket: u32) -> Result<(u8, P), TimerFault> {

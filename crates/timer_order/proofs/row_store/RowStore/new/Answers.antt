@@ -1,4 +1,4 @@
-use Rattle.std.proofs.Common.{min, ap, ◌∙◌, arith}
+use Rattle.std.proofs.Common.{ap, ◌∙◌}
 use Rattle.timer_rows.proofs.Parts.{unused_after}
 use Rattle.timer_rows.specs.Kept.{Kept}
 use Rattle.timer_order.proofs.Fresh.{fresh_long, fresh_kept, fresh_meant}

@@ -13,7 +13,7 @@ insert-requires g c =
     record {
       kept = part_kept s.rows.now c.used-n.result c.used-n.ensures.value s.ledger s.kept;
       held = part_held s.rows.now c.used-n.result c.used-n.ensures.value g.O.Order.Holds g.met.O.Order.once s.order s.ledger s.held;
-      allowed = part_of s.rows.now c.used-n.result c.used-n.ensures.value (λ (z : List (Row g.row.P.Denot)). check_rule (meant z s.ledger) c.args.deadline c.args.owner ≡ None) (sym c.in-None.ensures);
+      allowed = part_of s.rows.now c.used-n.result c.used-n.ensures.value (λ (z : List (Row g.row.P.Denot)). check_rule (meant z s.ledger) c.args.deadline c.args.owner ≡ None) (sym c.in_default.ensures);
     }
 
 pub invariant_of-self : goal.invariant_of-self
@@ -25,13 +25,13 @@ invariant_of-self g c =
       held = ∣ whole_of s.rows.now c.used-n.result c.used-n.ensures.value ys c.insert.auto.rows (λ z. g.O.Order.Holds c.insert.new.self z c.insert.new.ledger) c.insert.ensures.held ∣₁;
     }
 
-pub returns-in-None-clause-after : goal.returns-in-None-clause-after
-returns-in-None-clause-after g c =
+pub returns-clause-after : goal.returns-clause-after
+returns-clause-after g c =
     let s = c.args.self.now in
     let l = c.insert.new.ledger in
     let e = used_both s.rows.now c.used-n.result c.used-n.ensures.value c.insert.new.rows c.insert.auto.rows (λ (a b : List (Row g.row.P.Denot)). meant b l ≡ entered (meant a s.ledger) c.args.deadline c.args.owner c.args.payload) c.insert.ensures.meant in
-    e ∙ ap (λ k. (started (meant (used s.rows.now) s.ledger) c.args.deadline c.args.owner c.args.payload k).after) c.in-None.ensures
+    e ∙ ap (λ k. (started (meant (used s.rows.now) s.ledger) c.args.deadline c.args.owner c.args.payload k).after) c.in_default.ensures
 
-pub returns-in-None-clause-beyond : goal.returns-in-None-clause-beyond
-returns-in-None-clause-beyond g c =
+pub returns-clause-beyond : goal.returns-clause-beyond
+returns-clause-beyond g c =
     unused_after c.args.self.now.rows.now c.used-n.result c.used-n.ensures.value c.insert.new.rows c.insert.auto.rows
