@@ -58,10 +58,10 @@ impl<'s, P: Copy, S: Store<P>> Store<P> for Quota<'s, S> {
 
     #[tactic(auto, using(crate::proofs::Cuts::start_answer, crate::proofs::Cuts::start_after))]
     fn start(&mut self, deadline: u32, owner: u8, payload: P) -> Result<u32, TimerFault> {
-        match self.check(deadline, owner) {
-            Some(fault) => Err(fault),
-            None => self.inner.start(deadline, owner, payload),
+        if let Some(fault) = self.check(deadline, owner) {
+            return Err(fault);
         }
+        self.inner.start(deadline, owner, payload)
     }
 
     fn stop(&mut self, ticket: u32) -> Result<(u8, P), TimerFault> {
