@@ -10,3 +10,4 @@ pub mod Rulings
 pub mod Parts
 pub mod Props
 pub mod Sounds
+pub mod Asked

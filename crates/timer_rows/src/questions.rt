@@ -10,6 +10,7 @@ use timer::fault::TimerFault;
 use timer::owners::number_of;
 
 /// How many of the rows that were lent a store uses: all of them, but at most 4,096.
+#[tactic(auto, using(crate::proofs::Asked::capacity_used))]
 pub fn capacity<P: Copy>(rows: &[Row<P>]) -> usize
     ensures value { result ≡ min (length rows.now) 4096 }
     ensures used { result ≡ length (used rows.now) }
@@ -41,6 +42,7 @@ pub fn count<P: Copy>(rows: &[Row<P>], ledger: &Ledger, owner: u8) -> usize
 }
 
 /// The lowest refusal of a start with this deadline and owner, or `None`.
+#[tactic(auto, using(crate::proofs::Asked::part_kept, crate::proofs::Parts::part_used))]
 pub fn check<P: Copy>(
     rows: &[Row<P>],
     ledger: &Ledger,

@@ -25,6 +25,7 @@ fn seek_from<P: Copy>(rows: &[Row<P>], ticket: u32, near: u32) -> Option<usize>
 }
 
 /// The row of the pending entry with the ticket.
+#[tactic(auto, using(crate::proofs::Asked::no_ticket, crate::proofs::Asked::sought_ticket))]
 pub fn row_of<P: Copy>(rows: &[Row<P>], ticket: u32) -> Option<usize>
     ensures { MatchOption result (find ticket (entries rows.now) ≡ None) (λ x. (x < length rows.now) × (slice_index (tickets rows.now) x ≡ ticket) × (ticket ≢ 0)) }
 {
@@ -36,6 +37,7 @@ pub fn row_of<P: Copy>(rows: &[Row<P>], ticket: u32) -> Option<usize>
 }
 
 /// A vacant row, near the place of the next ticket.
+#[tactic(auto, using(crate::proofs::Asked::sought_room))]
 pub fn vacant<P: Copy>(rows: &[Row<P>], ledger: &Ledger) -> usize
     requires { length (entries rows.now) ≢ length rows.now }
     ensures { (result < length rows.now) × (slice_index (tickets rows.now) result ≡ 0) }
