@@ -5,7 +5,8 @@ use Rattle.timer_rows.specs.declared.row.Row.{Row}
 use Rattle.timer_rows.specs.Kept.{Kept}
 use Rattle.timer_rows.specs.Rows.{tickets, entries, used, meant}
 use Rattle.timer_rows.proofs.Parts.{used_both, unused_after}
-use Rattle.timer_order.proofs.Lending.{part_of, part_kept, part_held, whole_of}
+use Rattle.timer_rows.proofs.Asked.{part_kept}
+use Rattle.timer_order.proofs.Lending.{part_of, part_held, whole_of}
 use Rattle.timer_order.proofs.row_store.RowStore.remove.Goals as goal
 
 pub offset_bounds-self-x : goal.offset_bounds-self-x

@@ -8,7 +8,8 @@ use Rattle.timer_rows.specs.Rows.{used, contents, meant, NoneDue}
 use Rattle.timer_rows.proofs.Props.{kept_out}
 use Rattle.timer_rows.proofs.Parts.{part_used, unused_after}
 use Rattle.timer_rows.proofs.Same.{same_kept, same_meant, kept_tick}
-use Rattle.timer_order.proofs.Lending.{part_of, part_kept, part_held, whole_of}
+use Rattle.timer_rows.proofs.Asked.{part_kept}
+use Rattle.timer_order.proofs.Lending.{part_of, part_held, whole_of}
 use Rattle.timer_order.proofs.store.RowStoreStore.advance.Goals as goal
 
 pub tick-requires : goal.tick-requires

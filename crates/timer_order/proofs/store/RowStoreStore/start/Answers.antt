@@ -4,7 +4,8 @@ use Rattle.timer_rows.specs.declared.row.Row.{Row}
 use Rattle.timer_rows.specs.Kept.{Kept}
 use Rattle.timer_rows.specs.Rows.{used, meant}
 use Rattle.timer_rows.proofs.Parts.{used_both, unused_after}
-use Rattle.timer_order.proofs.Lending.{part_of, part_kept, part_held, whole_of}
+use Rattle.timer_rows.proofs.Asked.{part_kept}
+use Rattle.timer_order.proofs.Lending.{part_of, part_held, whole_of}
 use Rattle.timer_order.proofs.store.RowStoreStore.start.Goals as goal
 
 pub insert-requires : goal.insert-requires
