@@ -9,9 +9,6 @@ use Rattle.timer_wheel.proofs.Homes.{node_links}
 use Rattle.timer_wheel.proofs.Pours.{same_waiting, begun, poured, row_slot, step, to_links, front_rises}
 use Rattle.timer_wheel.proofs.wheel.WheelOrder.pour.Goals as goal
 
-pub front-x-requires : goal.front-x-requires
-front-x-requires g c = c.requires.waiting.few
-
 pub loop-x-init : goal.loop-x-init
 loop-x-init g c =
     let rows = c.args.rows.now in
@@ -26,8 +23,8 @@ unlink-requires g c =
     let n = node_links rows c.loop-x.self.slots.ends _ _ i.1 c.loop-x.x (row_slot c.args.tick c.requires.turn.1 rows w c.loop-x.self.slots.ends i.0 i.1 c.loop-x.x i.3 l) in
     (omega arith, (n.0, (n.1, n.2)))
 
-pub append-requires : goal.append-requires
-append-requires g c =
+pub append-requires-clause-last : goal.append-requires-clause-last
+append-requires-clause-last g c =
     let rows = c.loop-x.rows in
     let i = c.loop-x.invariant in
     let w = same_waiting c.args.tick c.args.rows.now rows i.2 c.requires.waiting in
@@ -37,17 +34,7 @@ append-requires g c =
     let q : length c.unlink.new.rows + c.place-to.result ≡ length c.loop-x.rows + place_of (c.args.tick + 1) (get_or (deadlines c.loop-x.rows) c.loop-x.x 0) = omega (arith, p, c.unlink.auto.rows) in
     let t = to_links c.args.tick c.requires.turn.1 rows w c.loop-x.self.slots.ends i.0 i.1 c.loop-x.x i.3 l _ q in
     let b = ap (λ col. get_or col (length c.unlink.new.rows + c.place-to.result) 0) c.unlink.ensures.backs in
-    let n = c.unlink.auto.rows in
-    record {
-      few = omega (arith, n, w.few);
-      row = omega (arith, n, l);
-      last = omega (arith, b, n, t.1);
-    }
-
-pub front-x-requires-in-loop-x : goal.front-x-requires-in-loop-x
-front-x-requires-in-loop-x g c =
-    let n : length c.append.new.rows ≡ length c.args.rows.now = c.append.auto.rows ∙ c.unlink.auto.rows ∙ c.loop-x.auto.rows in
-    omega (arith, n, c.requires.waiting.few)
+    omega (arith, b, c.unlink.auto.rows, t.1)
 
 pub loop-x-preserved : goal.loop-x-preserved
 loop-x-preserved g c =
@@ -77,12 +64,9 @@ loop-x-smaller g c =
     let f = front_rises c.args.tick c.requires.turn.1 c.append.new.rows w c.append.new.self.slots.ends (get_or (tickets rows) c.loop-x.x 0 + 1) a.1 c.front-x-in-loop-x.result (get_or (tickets rows) c.loop-x.x 0) a.3 (omega arith) s in
     omega (arith, e, f)
 
-pub returns : goal.returns
-returns g c =
+pub returns-clause-slots : goal.returns-clause-slots
+returns-clause-slots g c =
     let rows = c.loop-x.rows in
     let i = c.loop-x.invariant in
     let w = same_waiting c.args.tick c.args.rows.now rows i.2 c.requires.waiting in
-    record {
-      slots = poured c.args.tick c.requires.turn.1 rows w c.loop-x.self.slots.ends i.0 i.1 (omega (arith, c.loop-x-test.false, c.loop-x.auto.rows, i.3));
-      contents = i.2;
-    }
+    poured c.args.tick c.requires.turn.1 rows w c.loop-x.self.slots.ends i.0 i.1 (omega (arith, c.loop-x-test.false, c.loop-x.auto.rows, i.3))

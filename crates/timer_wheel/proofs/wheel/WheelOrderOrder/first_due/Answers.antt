@@ -4,9 +4,6 @@ use Rattle.timer_order.proofs.Dues.{asked}
 use Rattle.timer_wheel.proofs.Entering.{slot_empty, slot_first}
 use Rattle.timer_wheel.proofs.wheel.WheelOrderOrder.first_due.Goals as goal
 
-pub front-requires : goal.front-requires
-front-requires g c = c.requires.kept.few
-
 pub returns : goal.returns
 returns g c =
     let rows = c.args.rows.now in
