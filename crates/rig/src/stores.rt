@@ -7,6 +7,7 @@ use timer_order::order::Order;
 use timer_order::row_store::RowStore;
 use timer_quota::quota::Quota;
 use timer_rows::row::Row;
+use timer_wheel::wheel::LAST_TICK;
 
 /// How the task meets a store.
 #[derive(Clone, Copy)]
@@ -22,7 +23,7 @@ pub enum Layers {
 /// The task's journal over a store in an order.
 pub fn over<O: Order<u32> + Drop>(layers: Layers, heap: Global) -> Result<Vec<Note>, AllocError> {
     let mut rows = [Row::vacant(0); 8];
-    let mut store = RowStore::<u32, O>::new(&mut rows, 0, task::LAST);
+    let mut store = RowStore::<u32, O>::new(&mut rows, 0, LAST_TICK);
     told(&mut store, layers, heap)
 }
 

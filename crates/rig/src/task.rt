@@ -1,8 +1,5 @@
 use timer::call::Call;
 
-/// The last tick of the task's stores.
-pub const LAST: u32 = 16_777_215;
-
 /// How many calls may follow the task until nothing is pending.
 pub const BUDGET: u32 = 5_000;
 

@@ -7,6 +7,7 @@ use timer::store::Store;
 use timer_order::order::Order;
 use timer_order::row_store::RowStore;
 use timer_rows::row::Row;
+use timer_wheel::wheel::LAST_TICK;
 use trace::action::Segment;
 
 const WIRE_ROWS: usize = 512;
@@ -14,8 +15,6 @@ const WIRE_ROWS: usize = 512;
 const RESEND_ROWS: usize = 256;
 
 const KEEPALIVE_ROWS: usize = 64;
-
-const LAST: u32 = 16_777_215;
 
 const PACKET: Packet = Packet::Keepalive { sequence: 0 };
 
@@ -75,9 +74,9 @@ impl<'a, O: Order<Packet> + Order<Attempt> + Order<u8>> Stores<'a, O> {
         ensures keepalive { ⟦<RowStore<'a, u8, O> as Store<u8>>⟧.meaning result.keepalive ≡ idle (⟦<O as Order<u8>>⟧.last_of 16777215) 64 }
     {
         Stores {
-            wire: RowStore::new(wire, 0, LAST),
-            resend: RowStore::new(resend, 0, LAST),
-            keepalive: RowStore::new(keepalive, 0, LAST),
+            wire: RowStore::new(wire, 0, LAST_TICK),
+            resend: RowStore::new(resend, 0, LAST_TICK),
+            keepalive: RowStore::new(keepalive, 0, LAST_TICK),
         }
     }
 }
