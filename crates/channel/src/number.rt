@@ -4,7 +4,8 @@ ghost use Rattle.trace.specs.declared.fault.RigFault.TheVariants as fault;
 use std::marker::Model;
 use trace::fault::RigFault;
 
-const CHANNELS: u32 = 64;
+/// How many channels a rig has.
+pub const CHANNELS: usize = 64;
 
 /// The number of a channel that exists, which is below 64.
 #[derive(Clone, Copy, PartialEq, Eq)]
@@ -28,7 +29,7 @@ impl TryFrom<u32> for ChannelNumber {
     ghost try_from_gives = { λ n r. r ≡ (if nat_lt 63 n then Err fault.Channel else Ok n) };
 
     fn try_from(number: u32) -> Result<ChannelNumber, RigFault> {
-        if number < CHANNELS {
+        if (number as usize) < CHANNELS {
             Ok(ChannelNumber {
                 number: number as u8,
             })

@@ -57,6 +57,9 @@ impl<W: Store<Packet>, R: Store<Attempt>, K: Store<u8>> Lent<'_, '_, '_, '_, W, 
     pub fn put(&mut self, channel: ChannelNumber, record: Channel)
         ensures after { lent_state W.Store R.Store K.Store self.new ≡ put (lent_state W.Store R.Store K.Store self.old) channel «record» }
         ensures kept { Kept W.Store R.Store K.Store self.old self.new }
+        ensures wire { self.new.wire.now ≡ self.old.wire.now }
+        ensures resend { self.new.resend.now ≡ self.old.resend.now }
+        ensures keepalive { self.new.keepalive.now ≡ self.old.keepalive.now }
     {
         self.records[channel.index()] = record;
     }
@@ -66,6 +69,8 @@ impl<W: Store<Packet>, R: Store<Attempt>, K: Store<u8>> Lent<'_, '_, '_, '_, W, 
         ensures value { result ≡ (transmit (lent_state W.Store R.Store K.Store self.old) owner packet).transmission }
         ensures after { lent_state W.Store R.Store K.Store self.new ≡ (transmit (lent_state W.Store R.Store K.Store self.old) owner packet).after }
         ensures kept { Kept W.Store R.Store K.Store self.old self.new }
+        ensures resend { self.new.resend.now ≡ self.old.resend.now }
+        ensures keepalive { self.new.keepalive.now ≡ self.old.keepalive.now }
     {
         self.rig.transmit(self.wire, self.fates, owner, packet)
     }

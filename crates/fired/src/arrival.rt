@@ -39,6 +39,7 @@ pub fn arrival<W: Store<Packet>, R: Store<Attempt>, K: Store<u8>>(
 ) -> Action
     ensures obeys { Obeys (λ s. arrival s entry) (lent_state W.Store R.Store K.Store lent.old) (Ok result) (lent_state W.Store R.Store K.Store lent.new) }
     ensures kept { Kept W.Store R.Store K.Store lent.old lent.new }
+    ensures keepalive { lent.new.keepalive.now ≡ lent.old.keepalive.now }
 {
     let owner = entry.owner;
     let Some(channel) = lent.open_channel(owner) else {

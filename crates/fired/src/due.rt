@@ -1,3 +1,4 @@
+ghost use Rattle.std.specs.Prelude.{◌≡◌};
 ghost use Rattle.protocol.specs.Obeys.{Obeys};
 ghost use Rattle.protocol.specs.Rules.{resend_rule, resend as resend_entry, beat_rule, beat as beat_entry};
 ghost use Rattle.engine.specs.Loans.{lent_state, Kept};
@@ -22,6 +23,7 @@ fn resend_open<W: Store<Packet>, R: Store<Attempt>, K: Store<u8>>(
 ) -> Result<Action, RigFault>
     ensures obeys { Obeys (λ s. resend_rule s channel attempt) (lent_state W.Store R.Store K.Store lent.old) result (lent_state W.Store R.Store K.Store lent.new) }
     ensures kept { Kept W.Store R.Store K.Store lent.old lent.new }
+    ensures keepalive { lent.new.keepalive.now ≡ lent.old.keepalive.now }
 {
     let owner = channel.number();
     let record = lent.record_of(channel);
@@ -46,6 +48,7 @@ pub fn resend_due<W: Store<Packet>, R: Store<Attempt>, K: Store<u8>>(
 ) -> Result<Action, RigFault>
     ensures obeys { Obeys (λ s. resend_entry s entry) (lent_state W.Store R.Store K.Store lent.old) result (lent_state W.Store R.Store K.Store lent.new) }
     ensures kept { Kept W.Store R.Store K.Store lent.old lent.new }
+    ensures keepalive { lent.new.keepalive.now ≡ lent.old.keepalive.now }
 {
     if let Some(channel) = lent.open_channel(entry.owner) {
         return resend_open(lent, channel, entry.payload);
@@ -65,6 +68,7 @@ fn beat_open<W: Store<Packet>, R: Store<Attempt>, K: Store<u8>>(
 ) -> Result<Action, RigFault>
     ensures obeys { Obeys (λ s. beat_rule s channel) (lent_state W.Store R.Store K.Store lent.old) result (lent_state W.Store R.Store K.Store lent.new) }
     ensures kept { Kept W.Store R.Store K.Store lent.old lent.new }
+    ensures resend { lent.new.resend.now ≡ lent.old.resend.now }
 {
     let owner = channel.number();
     let record = lent.record_of(channel);
@@ -89,6 +93,7 @@ pub fn beat_due<W: Store<Packet>, R: Store<Attempt>, K: Store<u8>>(
 ) -> Result<Action, RigFault>
     ensures obeys { Obeys (λ s. beat_entry s entry) (lent_state W.Store R.Store K.Store lent.old) result (lent_state W.Store R.Store K.Store lent.new) }
     ensures kept { Kept W.Store R.Store K.Store lent.old lent.new }
+    ensures resend { lent.new.resend.now ≡ lent.old.resend.now }
 {
     if let Some(channel) = lent.open_channel(entry.owner) {
         return beat_open(lent, channel);

@@ -33,6 +33,7 @@ pub(crate) fn data<W: Store<Packet>, R: Store<Attempt>, K: Store<u8>>(
 ) -> Action
     ensures obeys { Obeys (λ s. data_rule s channel segment) (lent_state W.Store R.Store K.Store lent.old) (Ok result) (lent_state W.Store R.Store K.Store lent.new) }
     ensures kept { Kept W.Store R.Store K.Store lent.old lent.new }
+    ensures keepalive { lent.new.keepalive.now ≡ lent.old.keepalive.now }
 {
     let owner = channel.number();
     let record = lent.record_of(channel);
@@ -64,6 +65,7 @@ pub(crate) fn acknowledgement<W: Store<Packet>, R: Store<Attempt>, K: Store<u8>>
 ) -> Action
     ensures obeys { Obeys (λ s. acknowledgement_rule s channel sequence) (lent_state W.Store R.Store K.Store lent.old) (Ok result) (lent_state W.Store R.Store K.Store lent.new) }
     ensures kept { Kept W.Store R.Store K.Store lent.old lent.new }
+    ensures keepalive { lent.new.keepalive.now ≡ lent.old.keepalive.now }
 {
     let record = lent.record_of(channel);
     let answered = match record.awaits(sequence) {

@@ -1,8 +1,10 @@
 ghost use Rattle.std.specs.Prelude.{◌≡◌, IfOk};
 ghost use Rattle.replay.specs.Alike.{Both};
+ghost use Rattle.rig_session.specs.Stores.{with_fates};
 
 use crate::script;
 use crate::stores::{Rows, Stores};
+use anyhow::anyhow;
 use channel::record::{Attempt, Channel};
 use link::packet::Packet;
 use replay::lent::Lent;
@@ -12,6 +14,7 @@ use timer::store::Store;
 use timer_list::list::ListOrder;
 use timer_quota::quota::Quota;
 use timer_wheel::wheel::WheelOrder;
+use transport::rig::Draft;
 
 /// The session over wheels, and beside it over lists of the same sizes.
 pub fn over_wheels_and_lists(heap: Global) -> anyhow::Result<Pair>
@@ -44,6 +47,13 @@ pub fn over_wheels_and_lists(heap: Global) -> anyhow::Result<Pair>
     )
 }
 
+// The draft of the session, with its fates in the list.
+fn draft_of(fates: &mut [u16]) -> anyhow::Result<Draft>
+    ensures { IfOk result (λ d. (d ≡ record { delay = 10; interval = 5000; fates = 2 }) × (fates.new ≡ with_fates fates.old)) }
+{
+    script::draft(fates).map_err(|_| anyhow!("the list of fates is full"))
+}
+
 // The session over two sets of stores, with a quota above each wire.
 fn play<
     W: Store<Packet>,
@@ -65,8 +75,8 @@ fn play<
 {
     let mut fates = [0; 2];
     let mut other_fates = [0; 2];
-    let draft = script::draft(&mut fates)?;
-    let other_draft = script::draft(&mut other_fates)?;
+    let draft = draft_of(&mut fates)?;
+    let other_draft = draft_of(&mut other_fates)?;
     let mut table = [Channel::unused(); 64];
     let mut other_table = [Channel::unused(); 64];
     let mut limited = Quota::new(wire, [script::WIRE_QUOTA; 64]);

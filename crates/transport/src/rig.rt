@@ -2,7 +2,7 @@ use engine::rig::Rig;
 use trace::fault::RigFault;
 
 /// How many channels a rig has, and how many records of a table it uses.
-pub const CHANNELS: usize = 64;
+pub const CHANNELS: usize = channel::number::CHANNELS;
 
 /// A rig that is not running yet: its settings, and how many fates were added to the caller's list.
 #[derive(Debug, Drop)]
