@@ -2,12 +2,12 @@ use crate::order::Order;
 use crate::row_store::RowStore;
 use timer::expired::Expired;
 use timer::fault::TimerFault;
+use timer::owners::number_of;
 use timer::store::Store;
-use timer_rows::entries::clear;
+use timer_rows::entries::{check, clear};
 use timer_rows::ledger::Ledger;
-use timer_rows::questions;
 use timer_rows::row::Row;
-use timer_rows::rows::row_of;
+use timer_rows::rows::{capacity, row_of};
 
 impl<'a, P: Copy, O: Order<P>> RowStore<'a, P, O> {
     ghost use Rattle.std.specs.Prelude.{◌≡◌, ◌<◌, ◌≢◌, min, [], ◌∷◌, length, replicate, None, MatchOption, slice_index, slice_index_or};
@@ -20,7 +20,7 @@ impl<'a, P: Copy, O: Order<P>> RowStore<'a, P, O> {
         ensures unused { unused result.rows.now ≡ unused rows.old }
         ensures lender { result.rows.ghost_name ≡ rows.entry.ghost_name }
     {
-        let n = questions::capacity(rows);
+        let n = capacity(rows);
         clear(&mut rows[0..n]);
         RowStore {
             rows,
@@ -34,7 +34,7 @@ impl<'a, P: Copy, O: Order<P>> RowStore<'a, P, O> {
         ensures value { result ≡ min (length self.now.rows.now) 4096 }
         ensures capacity { result ≡ length (used self.now.rows.now) }
     {
-        questions::capacity(self.rows)
+        capacity(self.rows)
     }
 
     // The row of the pending entry with the ticket.
@@ -103,7 +103,7 @@ impl<'a, P: Copy, O: Order<P>> Store<P> for RowStore<'a, P, O> {
     }
 
     fn pending(&self) -> usize {
-        questions::pending(self.rows, &self.ledger)
+        usize::from(self.ledger.pending)
     }
 
     fn due(&self) -> bool
@@ -114,15 +114,17 @@ impl<'a, P: Copy, O: Order<P>> Store<P> for RowStore<'a, P, O> {
     }
 
     fn limit(&self, owner: u8) -> usize {
-        questions::limit(self.rows, &self.ledger, owner)
+        if owner < 64 { self.used() } else { 0 }
     }
 
     fn count(&self, owner: u8) -> usize {
-        questions::count(self.rows, &self.ledger, owner)
+        number_of(&self.ledger.counts, owner)
     }
 
+    #[tactic(auto, using(timer_rows::proofs::Parts::part_used))]
     fn check(&self, deadline: u32, owner: u8) -> Option<TimerFault> {
-        questions::check(self.rows, &self.ledger, deadline, owner)
+        let n = self.used();
+        check(&self.rows[0..n], &self.ledger, deadline, owner)
     }
 
     fn start(&mut self, deadline: u32, owner: u8, payload: P) -> Result<u32, TimerFault> {

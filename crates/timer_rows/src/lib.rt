@@ -4,6 +4,5 @@ pub mod ends;
 pub mod entries;
 pub mod ledger;
 pub mod links;
-pub mod questions;
 pub mod row;
 pub mod rows;

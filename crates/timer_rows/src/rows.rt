@@ -1,9 +1,18 @@
-ghost use Rattle.std.specs.Prelude.{◌≡◌, ℕ, ◌<◌, ◌≤◌, ◌≢◌, ◌==◌, length, None, MatchOption, position, slice_index};
+ghost use Rattle.std.specs.Prelude.{◌≡◌, ℕ, ◌<◌, ◌≤◌, ◌≢◌, ◌==◌, min, length, None, MatchOption, position, slice_index};
 ghost use Rattle.timer.specs.Rules.{find};
-ghost use Rattle.timer_rows.specs.Rows.{tickets, entries, Sought};
+ghost use Rattle.timer_rows.specs.Rows.{used, tickets, entries, Sought};
 
 use crate::ledger::Ledger;
 use crate::row::Row;
+
+/// How many of the rows that were lent a store uses: all of them, but at most 4,096.
+#[tactic(auto, using(crate::proofs::Asked::capacity_used))]
+pub fn capacity<P: Copy>(rows: &[Row<P>]) -> usize
+    ensures value { result ≡ min (length rows.now) 4096 }
+    ensures used { result ≡ length (used rows.now) }
+{
+    rows.len().min(4096)
+}
 
 // The first of the rows that has the ticket.
 fn seek<P: Copy>(rows: &[Row<P>], ticket: u32) -> Option<usize>
