@@ -19,7 +19,7 @@ use Rattle.session.proofs.Runs.{laws}
 use Rattle.replay.specs.declared.outcome.Session.{Session}
 use Rattle.replay.specs.Lent.{Held}
 use Rattle.replay.specs.Outcome.{first_state, refusal, Holds, Played, Broken}
-use Rattle.replay.proofs.Playing.{all_made}
+use Rattle.replay.proofs.Commands.{all_made}
 
 module _ (d : Draft) (l : Held) (rig : Running) (t : List Channel) (is : rig ≡ started d) (clear : take 64 t ≡ fresh_table) where
   -- the rig begins in the first state
@@ -40,19 +40,20 @@ pub from_first : (s z : State) (ns : List Note) (xs : List Command) (well : Bool
 from_first s z ns xs well u ms e f w =
     subst (λ (x : State). Went x [] (calls_of x xs) well u ms) e (subst (λ (x : List Note). Went z x (calls_of z xs) well u ms) f w)
 
-pub played : (s : State) (xs : List Command) (u : State) (session : Session) (l : Held) → Begun s → Went s [] (calls_of s xs) true u (vec_items session.notes) → session.finished.tick ≡ tick_of u → session.finished.packets ≡ u.packets → vec_items session.text ≡ session_text (vec_items session.notes) session.finished.tick session.finished.packets → Holds u l → Played s xs session l
-played s xs u session l b w k p x h =
-    let q : Progress s [] (calls_of s xs) u (vec_items session.notes) = all_made s [] (calls_of s xs) u (vec_items session.notes) w in
+pub played : (s : State) (xs : List Command) (u : State) (ms : List Note) (session : Session) (l : Held) → Begun s → Went s [] (calls_of s xs) true u ms → vec_items session.notes ≡ ms → session.finished.tick ≡ tick_of u → session.finished.packets ≡ u.packets → vec_items session.text ≡ session_text (vec_items session.notes) session.finished.tick session.finished.packets → Holds u l → Played s xs session l
+played s xs u ms session l b w same k p x h =
+    let q : Progress s [] (calls_of s xs) u ms = all_made s [] (calls_of s xs) u ms w in
+    let noted : vec_items session.notes ≡ notes_of s (calls_of s xs) = same ∙ q.noted in
     let tick : session.finished.tick ≡ tick_of (ends s (calls_of s xs)) = k ∙ ap (λ (z : State). tick_of z) q.reached in
     let packets : session.finished.packets ≡ (ends s (calls_of s xs)).packets = p ∙ ap (λ (z : State). z.packets) q.reached in
     record {
       begins = b;
-      notes = q.noted;
+      notes = noted;
       tick = tick;
       packets = packets;
       text =
           x
-          ∙ ap (λ (z : List Note). session_text z session.finished.tick session.finished.packets) q.noted
+          ∙ ap (λ (z : List Note). session_text z session.finished.tick session.finished.packets) noted
           ∙ ap (λ (z : ℕ). session_text (notes_of s (calls_of s xs)) z session.finished.packets) tick
           ∙ ap (λ (z : ℕ). session_text (notes_of s (calls_of s xs)) (tick_of (ends s (calls_of s xs))) z) packets;
       leaves = subst (λ (z : State). Holds z l) q.reached h;

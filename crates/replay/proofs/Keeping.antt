@@ -5,7 +5,9 @@ use Rattle.timer.specs.declared.store.Store.{Ghosts}
 use Rattle.link.specs.declared.packet.Packet.{Packet}
 use Rattle.channel.specs.declared.record.Attempt.{Attempt}
 use Rattle.replay.specs.declared.lent.Lent.{Lent}
+use Rattle.replay.specs.declared.playing.Playing.{Playing}
 use Rattle.replay.specs.Lent.{Kept}
+use Rattle.replay.specs.Playing.{Holding}
 
 module _ {W R K : Type 0} (w : Ghosts W Packet) (r : Ghosts R Attempt) (k : Ghosts K ℕ) where
   pub kept_still : (a : Lent W R K) → Kept w r k a a
@@ -37,3 +39,9 @@ module _ {W R K : Type 0} (w : Ghosts W Packet) (r : Ghosts R Attempt) (k : Ghos
         keepalive_loan = g.keepalive_loan ∙ f.keepalive_loan;
         table_loan = g.table_loan ∙ f.table_loan;
       }
+
+  pub holding_still : (a : Playing W R K w r k) → Holding w r k a a
+  holding_still a = (refl, refl, kept_still a.lent.now)
+
+  pub holding_on : (a b c : Playing W R K w r k) → Holding w r k a b → Holding w r k b c → Holding w r k a c
+  holding_on a b c f g = (g.0 ∙ f.0, g.1 ∙ f.1, kept_on a.lent.now b.lent.now c.lent.now f.2 g.2)

@@ -1,5 +1,6 @@
 pub mod Keeping
+pub mod Readiness
 pub mod Stepping
-pub mod Playing
+pub mod Commands
 pub mod Ending
 pub mod Pairs

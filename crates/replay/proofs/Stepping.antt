@@ -6,7 +6,6 @@ use Rattle.protocol.specs.Rules.{step_rule}
 use Rattle.timers_law.specs.Ends.{goes_on, measure}
 use Rattle.timers_law.specs.Ready.{Ready}
 use Rattle.timers_law.proofs.Ends.{step_falls}
-use Rattle.timers_law.proofs.Ready.{rule_ready}
 use Rattle.session.specs.declared.command.Call.{Call}
 use Rattle.session.specs.declared.command.Call.TheVariants.{Operate}
 use Rattle.session.specs.declared.answer.Note.{Note}
@@ -37,9 +36,6 @@ module _ (s : State) (ns : List Note) (k : ℕ) (t : State) (ms : List Note) (wa
         underway_more s ns (steps_until s k) (steps_until t k) (Operate Step ∷ []) (steps_until u k) t ms u ls way
         (steps_more t k r g o ∙ ap (λ (z : State). Operate Step ∷ steps_until z k) (sym e))
         (progress_one t ms (Operate Step) u ls e f)
-
-pub stays_ready : (t u : State) → Ready t → u ≡ (step_rule t).after → Ready u
-stays_ready t u r e = subst (λ (z : State). Ready z) (sym e) (rule_ready t Step r)
 
 pub falls : (k : ℕ) (t u : State) → Ready t → goes_on t k ≡ true → is_ok (step_rule t).answer ≡ true → u ≡ (step_rule t).after → measure u k < measure t k
 falls k t u r g o e = subst (λ (z : State). measure z k < measure t k) (sym e) (step_falls t k r g o)

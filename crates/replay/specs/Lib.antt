@@ -1,5 +1,6 @@
 pub mod Lent
 pub mod Noting
+pub mod Playing
 pub mod Outcome
 pub mod Alike
 pub mod Telling

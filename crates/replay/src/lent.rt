@@ -1,6 +1,8 @@
 ghost use Rattle.std.specs.Prelude.{◌≡◌};
 
-use channel::record::Channel;
+use channel::record::{Attempt, Channel};
+use link::packet::Packet;
+use timer::store::Store;
 
 /// What a caller lends to the session of a rig.
 #[derive(Drop)]
@@ -35,5 +37,14 @@ impl<'l, W, R, K> Lent<'l, W, R, K> {
             table,
             fates,
         }
+    }
+}
+
+impl<W: Store<Packet>, R: Store<Attempt>, K: Store<u8>> Lent<'_, W, R, K> {
+    /// The tick of the session, which is that of its wire.
+    pub(crate) fn tick(&self) -> u32
+        ensures { result ≡ (W.meaning self.now.wire.now).now }
+    {
+        self.wire.now()
     }
 }

@@ -2,11 +2,11 @@
 
 mod ask;
 pub mod lent;
-mod note;
 mod operate;
 pub mod outcome;
 pub mod pair;
 mod play;
+mod playing;
 mod print;
 pub mod run;
 mod steps;

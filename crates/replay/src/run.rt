@@ -3,7 +3,7 @@ ghost use Rattle.replay.specs.Outcome.{Outcome};
 
 use crate::lent::Lent;
 use crate::outcome::{Session, Stopped};
-use crate::play::play;
+use crate::playing::Playing;
 use crate::print::print;
 use channel::record::Attempt;
 use link::packet::Packet;
@@ -24,10 +24,15 @@ pub fn run<W: Store<Packet>, R: Store<Attempt>, K: Store<u8>>(
     ensures outcome { Outcome draft commands.now (held W.Store R.Store K.Store lent.old) result (held W.Store R.Store K.Store lent.new) }
     ensures kept { Kept W.Store R.Store K.Store lent.old lent.new }
 {
-    let mut rig = draft.begin(lent.wire, lent.resend, lent.keepalive, lent.table)?;
+    let rig = draft.begin(lent.wire, lent.resend, lent.keepalive, lent.table)?;
     let mut notes = Vec::new(heap);
-    play(&mut rig, lent, &mut notes, commands)?;
-    let finished = rig.finish(lent.wire);
+    let mut playing = Playing {
+        rig,
+        notes: &mut notes,
+        lent,
+    };
+    playing.play(commands)?;
+    let finished = playing.rig.finish(lent.wire);
     let text = print(heap, &notes, finished.tick(), finished.packets())?;
     Ok(Session {
         notes,

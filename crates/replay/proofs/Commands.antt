@@ -2,14 +2,12 @@
 use Rattle.std.proofs.Common.{◌≡◌, ℕ, ◌+◌, ◌<◌, ◌≤◌, Bool, true, false, List, [], ◌∷◌, ◌++◌, length, get_or, drop, is_ok, is_err, Ok, Err, Result, sym, refl, ap, ◌∙◌, subst}
 use Rattle.std.proofs.lemmas.List.{append-nil, append_assoc, at_drop_more, at_drop_all}
 use Rattle.protocol.specs.State.{State}
-use Rattle.timers_law.specs.Ready.{Ready}
 use Rattle.session.specs.declared.command.Call.{Call}
 use Rattle.session.specs.declared.command.Command.{Command}
 use Rattle.session.specs.declared.answer.Note.{Note}
 use Rattle.session.specs.Run.{call_after, note_of, ends, unfold_one, calls_of}
 use Rattle.session.specs.Progress.{Progress, Went, Underway}
 use Rattle.session.proofs.Going.{never, progress_none, progress_one, went_all, underway_went, underway_more}
-use Rattle.session.proofs.Runs.{ends_ready}
 
 -- one call was made and noted
 pub call_made : (s : State) (ns : List Note) (c : Call) (well : Bool) (t : State) (ms : List Note) → t ≡ call_after s c → ms ≡ ns ++ note_of s c ∷ [] → Went s ns (c ∷ []) well t ms
@@ -30,11 +28,6 @@ nothing_made s ns calls t ms e f =
       progress = record { reached = e; noted = f ∙ sym (append-nil ns) };
       all = λ o. absurd (never o);
     }
-
--- what was done of a list of calls leads on to a ready state
-pub went_ready : (s : State) (ns : List Note) (calls : List Call) (well : Bool) (t : State) (ms : List Note) → Ready s → Went s ns calls well t ms → Ready t
-went_ready s ns calls well t ms r w =
-    subst (λ (z : State). Ready z) (sym w.progress.reached) (ends_ready w.done s r)
 
 -- all of the calls were made
 pub all_made : (s : State) (ns : List Note) (calls : List Call) (t : State) (ms : List Note) → Went s ns calls true t ms → Progress s ns calls t ms
