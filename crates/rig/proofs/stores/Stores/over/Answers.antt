@@ -1,5 +1,5 @@
-use Rattle.rig_session.proofs.Idle.{idle_new}
-use Rattle.rig_session.proofs.stores.Stores.over.Goals as goal
+use Rattle.rig.proofs.Idle.{idle_new}
+use Rattle.rig.proofs.stores.Stores.over.Goals as goal
 
 pub returns-clause-wire : goal.returns-clause-wire
 returns-clause-wire g c = idle_new _ _ 512 _ c.told-wire (λ _. 512) c.new.ensures.meaning

@@ -4,7 +4,7 @@ use Rattle.timer.specs.Meaning.{Meaning}
 use Rattle.timer_rows.specs.Rows.{used}
 use Rattle.timer_rows.specs.declared.row.Row.{Row}
 use Rattle.timer_rows.proofs.Parts.{used_length}
-use Rattle.rig_session.specs.Stores.{idle}
+use Rattle.rig.specs.Stores.{idle}
 
 pub idle_new : {P : Type 0} (m : Meaning P) (last n : ℕ) (rows : List (Row P)) → length rows ≡ n → min n 4096 ≡ n → m ≡ record { now = min 0 last; last = last; capacity = length (used rows); limits = replicate 64 (length (used rows)); given = 0; pending = [] } → m ≡ idle last n
 idle_new m last n rows many few is =

@@ -1,6 +1,6 @@
 ghost use Rattle.std.specs.Prelude.{◌≡◌, IfOk};
 ghost use Rattle.replay.specs.Alike.{Both};
-ghost use Rattle.rig_session.specs.Stores.{with_fates};
+ghost use Rattle.rig.specs.Stores.{with_fates};
 
 use crate::script;
 use crate::stores::{Rows, Stores};
