@@ -1,0 +1,43 @@
+use crate::log::Log;
+use crate::over::over;
+use crate::scenario::Scenario;
+use crate::tally::Tally;
+use crate::theirs;
+use channel::record::Attempt;
+use link::packet::Packet;
+use std::alloc::{AllocError, Global};
+use timer_heap::heap::HeapOrder;
+use timer_list::list::ListOrder;
+use timer_order::order::Order;
+use timer_wheel::wheel::WheelOrder;
+
+// Compares what is seen over stores in an order with what is seen of the plain rig.
+fn against<O: Order<Packet> + Order<Attempt> + Order<u8> + Drop>(
+    heap: Global,
+    scenario: &Scenario<'_>,
+    plain: &Log,
+    tally: &mut Tally,
+) -> Result<(), AllocError> {
+    let seen = over::<O>(heap, scenario)?;
+    tally.compare(seen.numbers(), plain.numbers());
+    Ok(())
+}
+
+/// Plays a scenario on the plain rig and over every store, and compares.
+pub fn compare(heap: Global, scenario: &Scenario<'_>, tally: &mut Tally) -> Result<(), AllocError> {
+    let plain = theirs::play(heap, scenario)?;
+    against::<WheelOrder>(heap, scenario, &plain, tally)?;
+    against::<ListOrder>(heap, scenario, &plain, tally)?;
+    against::<HeapOrder>(heap, scenario, &plain, tally)
+}
+
+/// The same over the list and the heap, which alone can be given another last tick.
+pub fn compare_shorter(
+    heap: Global,
+    scenario: &Scenario<'_>,
+    tally: &mut Tally,
+) -> Result<(), AllocError> {
+    let plain = theirs::play(heap, scenario)?;
+    against::<ListOrder>(heap, scenario, &plain, tally)?;
+    against::<HeapOrder>(heap, scenario, &plain, tally)
+}

@@ -1,0 +1,288 @@
+// The refusals of a store at their edges, and calls that seeds decide.
+use crate::log::{Asked, Log};
+use crate::random::Random;
+use crate::scenario::LAST;
+use crate::tally::Tally;
+use crate::theirs::note_store;
+use reference::store::PlainStore;
+use std::alloc::{AllocError, Global};
+use timer::call::{Answer, Call};
+use timer::history::perform;
+use timer::store::Store;
+use timer_heap::heap::HeapOrder;
+use timer_list::list::ListOrder;
+use timer_order::order::Order;
+use timer_order::row_store::RowStore;
+use timer_quota::quota::Quota;
+use timer_rows::row::Row;
+use timer_wheel::wheel::WheelOrder;
+
+// How many stores are made up.
+const STORES: u64 = 600;
+
+// What is done to a store.
+#[derive(Clone, Copy)]
+enum Act {
+    // A call.
+    Call(Call<u32>),
+    // So many turns, in each of which a due entry is taken or the tick goes on.
+    Turns(u32),
+}
+
+// A store, and what is done to it.
+#[derive(Clone, Copy)]
+struct Case<'a> {
+    rows: usize,
+    first: u32,
+    // how many entries each owner may have
+    number: u16,
+    acts: &'a [Act],
+}
+
+// Notes an answer.
+fn note_answer(log: &mut Log, answer: Answer<u32>) -> Result<(), AllocError> {
+    match answer {
+        Answer::Start(Ok(ticket)) => log.pair(1, ticket),
+        Answer::Start(Err(fault)) => log.pair(2, u32::from(fault.number())),
+        Answer::Stop(Ok((owner, payload))) => {
+            log.pair(3, u32::from(owner))?;
+            log.number(payload)
+        }
+        Answer::Stop(Err(fault)) => log.pair(4, u32::from(fault.number())),
+        Answer::Take(Some(entry)) => {
+            log.pair(5, entry.ticket)?;
+            log.pair(u32::from(entry.owner), entry.payload)
+        }
+        Answer::Take(None) => log.number(6),
+        Answer::Advance(Ok(())) => log.number(7),
+        Answer::Advance(Err(fault)) => log.pair(8, u32::from(fault.number())),
+    }
+}
+
+// What is asked after an act.
+fn asked(act: Act, now: u32) -> Asked {
+    match act {
+        Act::Call(Call::Start(deadline, owner, _)) => Asked { owner, deadline },
+        _ => Asked {
+            owner: (now % 64) as u8,
+            deadline: now.saturating_add(1),
+        },
+    }
+}
+
+// What is seen of a store.
+fn ours<S: Store<u32>>(heap: Global, store: &mut S, acts: &[Act]) -> Result<Log, AllocError> {
+    let mut log = Log::new(heap);
+    for act in acts.iter() {
+        match *act {
+            Act::Call(call) => note_answer(&mut log, perform(store, call))?,
+            Act::Turns(count) => {
+                for _ in 0..count {
+                    let call = if store.due() {
+                        Call::Take
+                    } else {
+                        Call::Advance
+                    };
+                    let answer = perform(store, call);
+                    if let Answer::Advance(Ok(())) = answer {
+                        continue;
+                    }
+                    note_answer(&mut log, answer)?;
+                    log.number(store.now())?;
+                }
+            }
+        }
+        log.store(store, asked(*act, store.now()))?;
+    }
+    Ok(log)
+}
+
+// What is seen of a plain store.
+fn theirs(heap: Global, case: Case<'_>) -> Result<Log, AllocError> {
+    let mut store = PlainStore::new(heap, case.rows, case.first, LAST, 0);
+    store.lay_quota(&[case.number; 64]);
+    let mut log = Log::new(heap);
+    for act in case.acts.iter() {
+        match *act {
+            Act::Call(call) => note_answer(&mut log, store.perform(call)?)?,
+            Act::Turns(count) => {
+                for _ in 0..count {
+                    let call = if store.due() {
+                        Call::Take
+                    } else {
+                        Call::Advance
+                    };
+                    let answer = store.perform(call)?;
+                    if let Answer::Advance(Ok(())) = answer {
+                        continue;
+                    }
+                    note_answer(&mut log, answer)?;
+                    log.number(store.now())?;
+                }
+            }
+        }
+        note_store(&mut log, &store, asked(*act, store.now()))?;
+    }
+    Ok(log)
+}
+
+// What is seen of a store in an order.
+fn bare<O: Order<u32> + Drop>(heap: Global, case: Case<'_>) -> Result<Log, AllocError> {
+    let mut rows = vec![in heap; Row::vacant(0); case.rows]?;
+    let mut store = RowStore::<u32, O>::new(&mut rows, case.first, LAST);
+    ours(heap, &mut store, case.acts)
+}
+
+// What is seen of it under a quota.
+fn limited<O: Order<u32> + Drop>(heap: Global, case: Case<'_>) -> Result<Log, AllocError> {
+    let mut rows = vec![in heap; Row::vacant(0); case.rows]?;
+    let mut store = RowStore::<u32, O>::new(&mut rows, case.first, LAST);
+    ours(
+        heap,
+        &mut Quota::new(&mut store, [case.number; 64]),
+        case.acts,
+    )
+}
+
+// Compares a store in an order with the plain one, under a quota, and as it is where the quota allows all.
+fn against<O: Order<u32> + Drop>(
+    heap: Global,
+    case: Case<'_>,
+    plain: &Log,
+    tally: &mut Tally,
+) -> Result<(), AllocError> {
+    tally.compare(limited::<O>(heap, case)?.numbers(), plain.numbers());
+    if usize::from(case.number) >= case.rows {
+        tally.compare(bare::<O>(heap, case)?.numbers(), plain.numbers());
+    }
+    Ok(())
+}
+
+fn compare(heap: Global, case: Case<'_>, tally: &mut Tally) -> Result<(), AllocError> {
+    let plain = theirs(heap, case)?;
+    against::<WheelOrder>(heap, case, &plain, tally)?;
+    against::<ListOrder>(heap, case, &plain, tally)?;
+    against::<HeapOrder>(heap, case, &plain, tally)
+}
+
+fn start(deadline: u32, owner: u8) -> Act {
+    Act::Call(Call::Start(deadline, owner, deadline))
+}
+
+// Deadlines, owners, stops and advances at their edges, in a store that begins at this tick.
+fn acts_at(first: u32) -> [Act; 32] {
+    [
+        start(first, 0),
+        start(first.saturating_sub(1), 0),
+        start(first.saturating_add(1), 0),
+        start(LAST, 63),
+        start(LAST.saturating_add(1), 0),
+        start(u32::MAX, 0),
+        start(first.saturating_add(2), 64),
+        start(first.saturating_add(2), 255),
+        start(first, 64),
+        start(u32::MAX, 64),
+        start(first.saturating_add(2), 63),
+        start(first.saturating_add(1), 5),
+        Act::Call(Call::Stop(0)),
+        Act::Call(Call::Stop(99)),
+        Act::Call(Call::Stop(u32::MAX)),
+        Act::Call(Call::Stop(2)),
+        Act::Call(Call::Stop(2)),
+        Act::Call(Call::Take),
+        Act::Call(Call::Advance),
+        Act::Call(Call::Advance),
+        Act::Call(Call::Stop(1)),
+        Act::Call(Call::Take),
+        Act::Call(Call::Take),
+        Act::Call(Call::Stop(3)),
+        Act::Call(Call::Advance),
+        Act::Call(Call::Advance),
+        Act::Call(Call::Advance),
+        Act::Call(Call::Take),
+        start(first.saturating_add(5), 1),
+        Act::Turns(20),
+        Act::Call(Call::Advance),
+        Act::Call(Call::Stop(5)),
+    ]
+}
+
+/// The refusals of a store at their edges.
+pub fn compare_edges(heap: Global) -> Result<Tally, AllocError> {
+    let mut tally = Tally::new();
+    for first in [
+        0,
+        63,
+        4_095,
+        262_143,
+        LAST - 3,
+        LAST - 2,
+        LAST - 1,
+        LAST,
+        u32::MAX,
+    ] {
+        for rows in [0, 1, 2, 3, 4, 64] {
+            for number in [0, 1, 2, u16::MAX] {
+                let case = Case {
+                    rows,
+                    first,
+                    number,
+                    acts: &acts_at(first),
+                };
+                compare(heap, case, &mut tally)?;
+            }
+        }
+    }
+    Ok(tally)
+}
+
+// A deadline that can lie on any level of the wheel.
+fn deadline(random: &mut Random, first: u32) -> u32 {
+    let ahead = match random.below(6) {
+        0 => random.below(3),
+        1 => random.below(70),
+        2 => random.below(5_000),
+        3 => random.below(30_000),
+        4 => random.below(300_000),
+        _ => random.below(64),
+    };
+    first.saturating_add(ahead)
+}
+
+fn made_up(random: &mut Random, first: u32) -> Act {
+    match random.below(12) {
+        0..=5 => start(deadline(random, first), random.below(66) as u8 % 66),
+        6 | 7 => Act::Call(Call::Stop(random.below(60))),
+        8 => Act::Call(Call::Take),
+        9 => Act::Call(Call::Advance),
+        10 => Act::Turns(random.below(80)),
+        _ => Act::Turns(random.below(2_000)),
+    }
+}
+
+/// Stores to which calls are made that seeds decide, with deadlines on every level of the wheel.
+pub fn compare_random(heap: Global) -> Result<Tally, AllocError> {
+    let mut tally = Tally::new();
+    for seed in 0..STORES {
+        let mut random = Random::new(seed);
+        let first = match random.below(5) {
+            0 => 0,
+            1 => random.between(4_000, 4_095),
+            2 => random.between(261_000, 262_143),
+            3 => random.between(16_515_000, 16_520_000),
+            _ => random.below(LAST),
+        };
+        let mut acts = Vec::new(heap);
+        for _ in 0..random.between(40, 120) {
+            acts.push(made_up(&mut random, first))?;
+        }
+        let case = Case {
+            rows: random.between(1, 80) as usize,
+            first,
+            number: if random.one_in(2) { u16::MAX } else { 2 },
+            acts: &acts,
+        };
+        compare(heap, case, &mut tally)?;
+    }
+    Ok(tally)
+}
