@@ -15,7 +15,7 @@ const CLOSE: Act = Act::Operate(Operation::Close(0));
 
 const STEP: Act = Act::Operate(Operation::Step);
 
-// A word that arrives, a word that is lost and sent again, signs of life, and the end.
+// Words that arrive and are taken, signs of life, and the end.
 const EVERYTHING: [Act; 12] = [
     OPEN,
     SEND,
@@ -431,7 +431,7 @@ fn fates(heap: Global, tally: &mut Tally) -> Result<(), AllocError> {
     Ok(())
 }
 
-/// All of them.
+/// The refusals of the rig at their edges, and what else a caller can lend.
 pub fn compare_edges(heap: Global) -> Result<Tally, AllocError> {
     let mut tally = Tally::new();
     settings(heap, &mut tally)?;

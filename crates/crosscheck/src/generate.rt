@@ -106,7 +106,7 @@ impl Generated {
     }
 }
 
-/// A scenario of some hundred calls, which a seed decides.
+/// A scenario of some hundred calls and runs of steps, which a seed decides.
 pub fn generate(heap: Global, seed: u64) -> Result<Generated, AllocError> {
     let mut random = Random::new(seed);
     let channels = random.between(1, 5);

@@ -1,4 +1,4 @@
-// The line writer, in buffers of any length.
+// The line writer, in buffers of 0 to 200 bytes.
 use crate::log::Log;
 use crate::tally::Tally;
 use reference::text::{append_end, append_line};

@@ -466,8 +466,8 @@ impl Rig {
             if is_next && record.received(number).is_none() {
                 record.set_received(number, Some(segment.word));
             }
+            self.store(channel, record);
             if is_next || number < record.taken {
-                self.store(channel, record);
                 acknowledgement = Some(self.transmit(channel, Packet::Acknowledgement(number))?);
             }
         }
@@ -483,6 +483,7 @@ impl Rig {
         let Some(mut record) = self.find_open(channel) else {
             return;
         };
+        self.store(channel, record);
         if number < record.base || number >= record.next {
             return;
         }

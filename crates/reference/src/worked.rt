@@ -6,7 +6,7 @@ use crate::text::{append_end, append_line};
 use std::alloc::{AllocError, Global};
 use std::test::Fail;
 
-// The lines of the session at the end of the rules.
+// The lines of the session that the rules describe.
 const LINES: &str = "0 O 3 - - - - -
 0 S 3 0 700 0 10 1
 0 S 3 1 701 1 0 0
