@@ -1,0 +1,4 @@
+pub mod Raised
+pub mod Rulings
+pub mod Numbers
+pub mod Calls

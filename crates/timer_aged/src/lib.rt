@@ -1,0 +1,4 @@
+#![tactic(auto)]
+
+pub mod aged;
+pub mod store;
