@@ -31,6 +31,26 @@ const EVERYTHING: [Act; 12] = [
     Act::Steps(6_000),
 ];
 
+// Calls that each use up tickets: new timers, packets, resends and signs of life, and calls that use up none.
+const TO_THE_LAST_TICKETS: [Act; 16] = [
+    SEND,
+    Act::Operate(Operation::Open(1)),
+    Act::Operate(Operation::Send(1, 9)),
+    STEP,
+    Act::Steps(12),
+    TAKE,
+    Act::Operate(Operation::Open(2)),
+    Act::Steps(30),
+    SEND,
+    Act::Steps(1_200),
+    TAKE,
+    SEND,
+    Act::Operate(Operation::Open(64)),
+    Act::Operate(Operation::Open(3)),
+    CLOSE,
+    STEP,
+];
+
 // Three stores of which one after the other is another one.
 fn one_by_one(setups: Setups, other: Setup) -> [Setups; 3] {
     [
@@ -352,6 +372,38 @@ fn other_clocks(heap: Global, tally: &mut Tally) -> Result<(), AllocError> {
     Ok(())
 }
 
+// Stores with few tickets left: not to begin, and lent once the rig runs.
+fn last_tickets(heap: Global, tally: &mut Tally) -> Result<(), AllocError> {
+    for left in [0, 1, 2, 3, 4, 5, 8, u32::MAX - 1] {
+        let old = Setup {
+            given: u32::MAX - left,
+            ..Setup::new(64, 0)
+        };
+        for setups in one_by_one(Setups::new(64, 0), old) {
+            let scenario = Scenario {
+                interval: 20,
+                layers: Layers::Aged,
+                ..Scenario::plain(&EVERYTHING)
+            };
+            compare(heap, &Scenario { setups, ..scenario }, tally)?;
+            for fates in [&[][..], &[32_778, 32_778, 32_778, 32_778, 0, 0, 32_778]] {
+                compare(
+                    heap,
+                    &Scenario {
+                        fates,
+                        room: 7,
+                        later: Some(setups),
+                        later_acts: &TO_THE_LAST_TICKETS,
+                        ..scenario
+                    },
+                    tally,
+                )?;
+            }
+        }
+    }
+    Ok(())
+}
+
 fn records(heap: Global, tally: &mut Tally) -> Result<(), AllocError> {
     for base in [
         0,
@@ -442,6 +494,7 @@ pub fn compare_edges(heap: Global) -> Result<Tally, AllocError> {
     windows(heap, &mut tally)?;
     full_stores(heap, &mut tally)?;
     other_clocks(heap, &mut tally)?;
+    last_tickets(heap, &mut tally)?;
     records(heap, &mut tally)?;
     fates(heap, &mut tally)?;
     Ok(tally)

@@ -5,6 +5,7 @@ use channel::record::Attempt;
 use link::packet::Packet;
 use std::alloc::{AllocError, Global};
 use timer::store::Store;
+use timer_aged::aged::Aged;
 use timer_order::order::Order;
 use timer_order::row_store::RowStore;
 use timer_quota::quota::Quota;
@@ -77,6 +78,16 @@ pub fn over<O: Order<Packet> + Order<Attempt> + Order<u8> + Drop>(
             &mut Quota::new(&mut later_wire, later.wire.numbers),
             &mut Quota::new(&mut later_resend, later.resend.numbers),
             &mut Quota::new(&mut later_keepalive, later.keepalive.numbers),
+        ),
+        Layers::Aged => play(
+            heap,
+            scenario,
+            &mut Aged::new(&mut wire, setups.wire.given),
+            &mut Aged::new(&mut resend, setups.resend.given),
+            &mut Aged::new(&mut keepalive, setups.keepalive.given),
+            &mut Aged::new(&mut later_wire, later.wire.given),
+            &mut Aged::new(&mut later_resend, later.resend.given),
+            &mut Aged::new(&mut later_keepalive, later.keepalive.given),
         ),
     }
 }

@@ -57,6 +57,8 @@ pub struct Setup {
     pub last: u32,
     /// How many entries each owner may have, where quotas are laid.
     pub numbers: [u16; 64],
+    /// How many tickets were given before, where the stores are aged.
+    pub given: u32,
     /// What was done to it before.
     pub before: Before,
 }
@@ -69,6 +71,7 @@ impl Setup {
             first,
             last: LAST,
             numbers: [u16::MAX; 64],
+            given: 0,
             before: Before::Nothing,
         }
     }
@@ -103,6 +106,8 @@ pub enum Layers {
     Bare,
     /// A quota.
     Quotas,
+    /// A layer that ages it.
+    Aged,
 }
 
 /// A rig, and what is done to it.

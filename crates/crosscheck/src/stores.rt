@@ -9,6 +9,7 @@ use std::alloc::{AllocError, Global};
 use timer::call::{Answer, Call};
 use timer::history::perform;
 use timer::store::Store;
+use timer_aged::aged::Aged;
 use timer_heap::heap::HeapOrder;
 use timer_list::list::ListOrder;
 use timer_order::order::Order;
@@ -34,6 +35,8 @@ enum Act {
 struct Case<'a> {
     rows: usize,
     first: u32,
+    // how many tickets were given before
+    given: u32,
     // how many entries each owner may have
     number: u16,
     acts: &'a [Act],
@@ -99,7 +102,7 @@ fn ours<S: Store<u32>>(heap: Global, store: &mut S, acts: &[Act]) -> Result<Log,
 
 // What is seen of a plain store.
 fn theirs(heap: Global, case: Case<'_>) -> Result<Log, AllocError> {
-    let mut store = PlainStore::new(heap, case.rows, case.first, LAST, 0);
+    let mut store = PlainStore::new(heap, case.rows, case.first, LAST, case.given);
     store.lay_quota(&[case.number; 64]);
     let mut log = Log::new(heap);
     for act in case.acts.iter() {
@@ -126,22 +129,33 @@ fn theirs(heap: Global, case: Case<'_>) -> Result<Log, AllocError> {
     Ok(log)
 }
 
-// What is seen of a store in an order.
-fn bare<O: Order<u32> + Drop>(heap: Global, case: Case<'_>) -> Result<Log, AllocError> {
-    let mut rows = vec![in heap; Row::vacant(0); case.rows]?;
-    let mut store = RowStore::<u32, O>::new(&mut rows, case.first, LAST);
-    ours(heap, &mut store, case.acts)
+// What is seen of a store, under a quota or as it is.
+fn seen<S: Store<u32>>(
+    heap: Global,
+    store: &mut S,
+    case: Case<'_>,
+    limited: bool,
+) -> Result<Log, AllocError> {
+    if limited {
+        ours(heap, &mut Quota::new(store, [case.number; 64]), case.acts)
+    } else {
+        ours(heap, store, case.acts)
+    }
 }
 
-// What is seen of it under a quota.
-fn limited<O: Order<u32> + Drop>(heap: Global, case: Case<'_>) -> Result<Log, AllocError> {
+// What is seen of a store in an order, which is aged where tickets were given before.
+fn over<O: Order<u32> + Drop>(
+    heap: Global,
+    case: Case<'_>,
+    limited: bool,
+) -> Result<Log, AllocError> {
     let mut rows = vec![in heap; Row::vacant(0); case.rows]?;
     let mut store = RowStore::<u32, O>::new(&mut rows, case.first, LAST);
-    ours(
-        heap,
-        &mut Quota::new(&mut store, [case.number; 64]),
-        case.acts,
-    )
+    if case.given == 0 {
+        seen(heap, &mut store, case, limited)
+    } else {
+        seen(heap, &mut Aged::new(&mut store, case.given), case, limited)
+    }
 }
 
 // Compares a store in an order with the plain one, under a quota, and as it is where the quota allows all.
@@ -151,9 +165,9 @@ fn against<O: Order<u32> + Drop>(
     plain: &Log,
     tally: &mut Tally,
 ) -> Result<(), AllocError> {
-    tally.compare(limited::<O>(heap, case)?.numbers(), plain.numbers());
+    tally.compare(over::<O>(heap, case, true)?.numbers(), plain.numbers());
     if usize::from(case.number) >= case.rows {
-        tally.compare(bare::<O>(heap, case)?.numbers(), plain.numbers());
+        tally.compare(over::<O>(heap, case, false)?.numbers(), plain.numbers());
     }
     Ok(())
 }
@@ -207,9 +221,7 @@ fn acts_at(first: u32) -> [Act; 32] {
     ]
 }
 
-/// The refusals of a store at their edges.
-pub fn compare_edges(heap: Global) -> Result<Tally, AllocError> {
-    let mut tally = Tally::new();
+fn edges(heap: Global, tally: &mut Tally) -> Result<(), AllocError> {
     for first in [
         0,
         63,
@@ -226,13 +238,79 @@ pub fn compare_edges(heap: Global) -> Result<Tally, AllocError> {
                 let case = Case {
                     rows,
                     first,
+                    given: 0,
                     number,
                     acts: &acts_at(first),
                 };
-                compare(heap, case, &mut tally)?;
+                compare(heap, case, tally)?;
             }
         }
     }
+    Ok(())
+}
+
+// The last tickets, and starts and stops when none is left, in a store that begins at this tick.
+fn acts_of_last_tickets(first: u32) -> [Act; 31] {
+    [
+        Act::Call(Call::Stop(0)),
+        Act::Call(Call::Stop(1)),
+        Act::Call(Call::Stop(u32::MAX)),
+        start(first, 0),
+        start(first.saturating_add(1), 0),
+        start(first.saturating_add(2), 1),
+        start(first.saturating_add(2), 2),
+        start(first.saturating_add(2), 1),
+        start(first.saturating_add(3), 3),
+        start(first, 0),
+        start(LAST.saturating_add(1), 0),
+        start(first.saturating_add(1), 64),
+        start(first.saturating_add(1), 0),
+        Act::Call(Call::Stop(1)),
+        Act::Call(Call::Stop(u32::MAX - 2)),
+        Act::Call(Call::Stop(u32::MAX - 2)),
+        start(first.saturating_add(3), 0),
+        Act::Call(Call::Take),
+        Act::Call(Call::Advance),
+        Act::Call(Call::Advance),
+        Act::Call(Call::Take),
+        Act::Call(Call::Take),
+        Act::Call(Call::Advance),
+        Act::Call(Call::Stop(u32::MAX)),
+        Act::Call(Call::Stop(u32::MAX)),
+        start(first.saturating_add(9), 5),
+        Act::Turns(8),
+        Act::Call(Call::Stop(u32::MAX - 1)),
+        start(first.saturating_add(20), 5),
+        start(LAST.saturating_add(1), 64),
+        Act::Call(Call::Stop(0)),
+    ]
+}
+
+fn last_tickets(heap: Global, tally: &mut Tally) -> Result<(), AllocError> {
+    for left in [0, 1, 2, 3, 4, 5, 6, 100, u32::MAX - 1] {
+        for first in [0, 62, LAST - 3, LAST] {
+            for rows in [0, 1, 2, 3, 64] {
+                for number in [0, 1, u16::MAX] {
+                    let case = Case {
+                        rows,
+                        first,
+                        given: u32::MAX - left,
+                        number,
+                        acts: &acts_of_last_tickets(first),
+                    };
+                    compare(heap, case, tally)?;
+                }
+            }
+        }
+    }
+    Ok(())
+}
+
+/// The refusals of a store at their edges.
+pub fn compare_edges(heap: Global) -> Result<Tally, AllocError> {
+    let mut tally = Tally::new();
+    edges(heap, &mut tally)?;
+    last_tickets(heap, &mut tally)?;
     Ok(tally)
 }
 
@@ -249,10 +327,10 @@ fn deadline(random: &mut Random, first: u32) -> u32 {
     first.saturating_add(ahead)
 }
 
-fn made_up(random: &mut Random, first: u32) -> Act {
+fn made_up(random: &mut Random, first: u32, given: u32) -> Act {
     match random.below(12) {
         0..=5 => start(deadline(random, first), random.below(66) as u8 % 66),
-        6 | 7 => Act::Call(Call::Stop(random.below(60))),
+        6 | 7 => Act::Call(Call::Stop(given.saturating_add(random.below(60)))),
         8 => Act::Call(Call::Take),
         9 => Act::Call(Call::Advance),
         10 => Act::Turns(random.below(80)),
@@ -272,13 +350,20 @@ pub fn compare_random(heap: Global) -> Result<Tally, AllocError> {
             3 => random.between(16_515_000, 16_520_000),
             _ => random.below(LAST),
         };
+        // every third store is left with few tickets
+        let given = if seed % 3 == 0 {
+            u32::MAX - random.below(40)
+        } else {
+            0
+        };
         let mut acts = Vec::new(heap);
         for _ in 0..random.between(40, 120) {
-            acts.push(made_up(&mut random, first))?;
+            acts.push(made_up(&mut random, first, given))?;
         }
         let case = Case {
             rows: random.between(1, 80) as usize,
             first,
+            given,
             number: if random.one_in(2) { u16::MAX } else { 2 },
             acts: &acts,
         };

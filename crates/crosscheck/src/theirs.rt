@@ -104,7 +104,12 @@ fn store<P: Copy>(
     layers: Layers,
     payload: P,
 ) -> Result<PlainStore<P>, AllocError> {
-    let mut store = PlainStore::new(heap, setup.rows, setup.first, setup.last, 0);
+    let given = if matches!(layers, Layers::Aged) {
+        setup.given
+    } else {
+        0
+    };
+    let mut store = PlainStore::new(heap, setup.rows, setup.first, setup.last, given);
     if setup.before != Before::Nothing {
         let _ = store.start(setup.first.saturating_add(1), 0, payload)?;
     }
