@@ -1,13 +1,18 @@
 #![tactic(auto)]
 
+mod commands;
 mod compare;
 mod edges;
 mod generate;
 mod log;
+mod notes;
 mod ours;
 mod over;
+mod pairs;
+mod plain;
 mod random;
 mod scenario;
+mod sessions;
 mod stores;
 mod tally;
 mod theirs;
@@ -27,7 +32,9 @@ fn main(rt: HostRuntime) -> anyhow::Result<()> {
     print(&rt, "random stores", stores::compare_random(heap)?)?;
     print(&rt, "lines and buffers", writer::compare_lines(heap)?)?;
     print(&rt, "rigs at their edges", edges::compare_edges(heap)?)?;
-    print(&rt, "random sessions", sessions(heap)?)
+    print(&rt, "random sessions", random_sessions(heap)?)?;
+    print(&rt, "the session", sessions::compare_session(heap)?)?;
+    print(&rt, "pairs of rigs", sessions::compare_sessions(heap)?)
 }
 
 fn print(rt: &HostRuntime, group: &str, tally: Tally) -> anyhow::Result<()> {
@@ -39,7 +46,7 @@ fn print(rt: &HostRuntime, group: &str, tally: Tally) -> anyhow::Result<()> {
 }
 
 // Sessions that seeds decide.
-fn sessions(heap: Global) -> Result<Tally, AllocError> {
+fn random_sessions(heap: Global) -> Result<Tally, AllocError> {
     let mut tally = Tally::new();
     for seed in 0..SESSIONS {
         compare(heap, &generate(heap, seed)?.scenario(), &mut tally)?;

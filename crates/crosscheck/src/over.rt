@@ -12,9 +12,11 @@ use timer_quota::quota::Quota;
 use timer_rows::row::Row;
 use trace::action::Segment;
 
-const PACKET: Packet = Packet::Keepalive { sequence: 0 };
+/// A packet for rows that are vacant.
+pub const PACKET: Packet = Packet::Keepalive { sequence: 0 };
 
-const ATTEMPT: Attempt = Attempt {
+/// An attempt for rows that are vacant.
+pub const ATTEMPT: Attempt = Attempt {
     segment: Segment {
         sequence: 0,
         word: 0,
@@ -23,8 +25,8 @@ const ATTEMPT: Attempt = Attempt {
     sent: 0,
 };
 
-// A store over rows, as it is to be lent.
-fn store<'a, P: Copy + Drop, O: Order<P> + Drop>(
+/// A store over rows, as it is to be lent.
+pub fn store<'a, P: Copy + Drop, O: Order<P> + Drop>(
     rows: &'a mut [Row<P>],
     setup: Setup,
     payload: P,
@@ -66,6 +68,16 @@ pub fn over<O: Order<Packet> + Order<Attempt> + Order<u8> + Drop>(
             &mut resend,
             &mut keepalive,
             &mut later_wire,
+            &mut later_resend,
+            &mut later_keepalive,
+        ),
+        Layers::Wire => play(
+            heap,
+            scenario,
+            &mut Quota::new(&mut wire, setups.wire.numbers),
+            &mut resend,
+            &mut keepalive,
+            &mut Quota::new(&mut later_wire, later.wire.numbers),
             &mut later_resend,
             &mut later_keepalive,
         ),

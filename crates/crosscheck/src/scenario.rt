@@ -99,12 +99,14 @@ impl Setups {
     }
 }
 
-/// What lies over each store.
-#[derive(Clone, Copy)]
+/// What lies over the stores.
+#[derive(Clone, Copy, PartialEq, Eq)]
 pub enum Layers {
     /// Nothing.
     Bare,
-    /// A quota.
+    /// A quota over the wire.
+    Wire,
+    /// A quota over each.
     Quotas,
     /// A layer that ages it.
     Aged,

@@ -50,7 +50,11 @@ fn note_line(
     log.text(text.as_bytes())
 }
 
-fn operate(rig: &mut Rig, operation: Operation) -> Result<Result<Action, RigFault>, AllocError> {
+/// Makes a call of the plain rig.
+pub fn operate(
+    rig: &mut Rig,
+    operation: Operation,
+) -> Result<Result<Action, RigFault>, AllocError> {
     match operation {
         Operation::Open(channel) => rig.open(channel),
         Operation::Send(channel, word) => rig.send(channel, word),
@@ -101,7 +105,7 @@ fn lend<T: Drop>(lent: &mut Vec<T>, waiting: &mut Vec<T>, count: usize) -> Resul
 fn store<P: Copy>(
     heap: Global,
     setup: Setup,
-    layers: Layers,
+    is_limited: bool,
     payload: P,
 ) -> Result<PlainStore<P>, AllocError> {
     let given = if matches!(layers, Layers::Aged) {
@@ -116,7 +120,7 @@ fn store<P: Copy>(
     if setup.before == Before::Stopped {
         let _ = store.stop(1);
     }
-    if matches!(layers, Layers::Quotas) {
+    if is_limited {
         store.lay_quota(&setup.numbers);
     }
     Ok(store)
@@ -129,18 +133,19 @@ fn lend_stores(
     setups: Setups,
     layers: Layers,
 ) -> Result<(), AllocError> {
-    rig.wire = store(heap, setups.wire, layers, PACKET)?;
-    rig.resend = store(heap, setups.resend, layers, UNANSWERED)?;
-    rig.keepalive = store(heap, setups.keepalive, layers, 0)?;
+    rig.wire = store(heap, setups.wire, layers != Layers::Bare, PACKET)?;
+    rig.resend = store(heap, setups.resend, layers == Layers::Quotas, UNANSWERED)?;
+    rig.keepalive = store(heap, setups.keepalive, layers == Layers::Quotas, 0)?;
     Ok(())
 }
 
-// A rig that has not begun.
-fn rig(heap: Global, scenario: &Scenario<'_>) -> Result<Rig, AllocError> {
+/// The plain rig of a scenario, which has not begun.
+pub fn rig(heap: Global, scenario: &Scenario<'_>) -> Result<Rig, AllocError> {
     let setups = scenario.setups;
-    let wire = store(heap, setups.wire, scenario.layers, PACKET)?;
-    let resend = store(heap, setups.resend, scenario.layers, UNANSWERED)?;
-    let keepalive = store(heap, setups.keepalive, scenario.layers, 0)?;
+    let layers = scenario.layers;
+    let wire = store(heap, setups.wire, layers != Layers::Bare, PACKET)?;
+    let resend = store(heap, setups.resend, layers == Layers::Quotas, UNANSWERED)?;
+    let keepalive = store(heap, setups.keepalive, layers == Layers::Quotas, 0)?;
     let mut table = Vec::new(heap);
     table.resize(scenario.records.min(RECORDS), Record::unused())?;
     let settings = Settings {
