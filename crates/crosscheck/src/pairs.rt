@@ -11,6 +11,7 @@ use replay::pair::{Pair, run_pair};
 use session::command::Command;
 use std::alloc::{AllocError, Global};
 use timer::store::Store;
+use timer_aged::aged::Aged;
 use timer_order::order::Order;
 use timer_quota::quota::Quota;
 use timer_rows::row::Row;
@@ -139,6 +140,17 @@ pub fn over<
             &mut Quota::new(&mut other_wire, setups.wire.numbers),
             &mut Quota::new(&mut other_resend, setups.resend.numbers),
             &mut Quota::new(&mut other_keepalive, setups.keepalive.numbers),
+        ),
+        Layers::Aged => play(
+            heap,
+            scenario,
+            commands,
+            &mut Aged::new(&mut wire, setups.wire.given),
+            &mut Aged::new(&mut resend, setups.resend.given),
+            &mut Aged::new(&mut keepalive, setups.keepalive.given),
+            &mut Aged::new(&mut other_wire, setups.wire.given),
+            &mut Aged::new(&mut other_resend, setups.resend.given),
+            &mut Aged::new(&mut other_keepalive, setups.keepalive.given),
         ),
     }
 }

@@ -100,7 +100,7 @@ impl Setups {
 }
 
 /// What lies over the stores.
-#[derive(Clone, Copy, PartialEq, Eq)]
+#[derive(Clone, Copy)]
 pub enum Layers {
     /// Nothing.
     Bare,
@@ -108,8 +108,20 @@ pub enum Layers {
     Wire,
     /// A quota over each.
     Quotas,
-    /// A layer that ages it.
+    /// A layer over each that ages it.
     Aged,
+}
+
+impl Layers {
+    /// Whether a quota lies over the wire.
+    pub fn limit_wire(self) -> bool {
+        matches!(self, Layers::Wire | Layers::Quotas)
+    }
+
+    /// Whether a quota lies over the other two stores.
+    pub fn limit_others(self) -> bool {
+        matches!(self, Layers::Quotas)
+    }
 }
 
 /// A rig, and what is done to it.

@@ -108,12 +108,7 @@ fn store<P: Copy>(
     is_limited: bool,
     payload: P,
 ) -> Result<PlainStore<P>, AllocError> {
-    let given = if matches!(layers, Layers::Aged) {
-        setup.given
-    } else {
-        0
-    };
-    let mut store = PlainStore::new(heap, setup.rows, setup.first, setup.last, given);
+    let mut store = PlainStore::new(heap, setup.rows, setup.first, setup.last, setup.given);
     if setup.before != Before::Nothing {
         let _ = store.start(setup.first.saturating_add(1), 0, payload)?;
     }
@@ -133,9 +128,9 @@ fn lend_stores(
     setups: Setups,
     layers: Layers,
 ) -> Result<(), AllocError> {
-    rig.wire = store(heap, setups.wire, layers != Layers::Bare, PACKET)?;
-    rig.resend = store(heap, setups.resend, layers == Layers::Quotas, UNANSWERED)?;
-    rig.keepalive = store(heap, setups.keepalive, layers == Layers::Quotas, 0)?;
+    rig.wire = store(heap, setups.wire, layers.limit_wire(), PACKET)?;
+    rig.resend = store(heap, setups.resend, layers.limit_others(), UNANSWERED)?;
+    rig.keepalive = store(heap, setups.keepalive, layers.limit_others(), 0)?;
     Ok(())
 }
 
@@ -143,9 +138,9 @@ fn lend_stores(
 pub fn rig(heap: Global, scenario: &Scenario<'_>) -> Result<Rig, AllocError> {
     let setups = scenario.setups;
     let layers = scenario.layers;
-    let wire = store(heap, setups.wire, layers != Layers::Bare, PACKET)?;
-    let resend = store(heap, setups.resend, layers == Layers::Quotas, UNANSWERED)?;
-    let keepalive = store(heap, setups.keepalive, layers == Layers::Quotas, 0)?;
+    let wire = store(heap, setups.wire, layers.limit_wire(), PACKET)?;
+    let resend = store(heap, setups.resend, layers.limit_others(), UNANSWERED)?;
+    let keepalive = store(heap, setups.keepalive, layers.limit_others(), 0)?;
     let mut table = Vec::new(heap);
     table.resize(scenario.records.min(RECORDS), Record::unused())?;
     let settings = Settings {
