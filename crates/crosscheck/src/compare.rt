@@ -1,11 +1,11 @@
 use crate::log::Log;
 use crate::over::over;
 use crate::scenario::Scenario;
-use crate::tally::Tally;
 use crate::theirs;
 use channel::record::Attempt;
 use link::packet::Packet;
 use std::alloc::{AllocError, Global};
+use tally::Tally;
 use timer_heap::heap::HeapOrder;
 use timer_list::list::ListOrder;
 use timer_order::order::Order;

@@ -1,9 +1,9 @@
 // The refusals of the rig at their edges, and what else a caller can lend.
 use crate::compare::{compare, compare_shorter};
 use crate::scenario::{Act, Before, LAST, Layers, Scenario, Setup, Setups, Spoiled};
-use crate::tally::Tally;
 use protocol::operation::Operation;
 use std::alloc::{AllocError, Global};
+use tally::Tally;
 
 const OPEN: Act = Act::Operate(Operation::Open(0));
 

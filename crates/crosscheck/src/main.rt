@@ -14,14 +14,13 @@ mod random;
 mod scenario;
 mod sessions;
 mod stores;
-mod tally;
 mod theirs;
 mod writer;
 
 use crate::compare::compare;
 use crate::generate::generate;
-use crate::tally::Tally;
 use std::alloc::{AllocError, Global};
+use tally::Tally;
 
 // How many sessions are made up.
 const SESSIONS: u64 = 2_000;

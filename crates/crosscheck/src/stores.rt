@@ -2,10 +2,10 @@
 use crate::log::{Asked, Log};
 use crate::random::Random;
 use crate::scenario::LAST;
-use crate::tally::Tally;
 use crate::theirs::note_store;
 use reference::store::PlainStore;
 use std::alloc::{AllocError, Global};
+use tally::Tally;
 use timer::call::{Answer, Call};
 use timer::history::perform;
 use timer::store::Store;

@@ -1,8 +1,8 @@
 // The line writer, in buffers of 0 to 200 bytes.
 use crate::log::Log;
-use crate::tally::Tally;
 use reference::text::{append_end, append_line};
 use std::alloc::{AllocError, Global};
+use tally::Tally;
 use timer::fault::TimerFault;
 use trace::action::{Action, Heartbeat, Segment, Transmission};
 use trace::fault::RigFault;
