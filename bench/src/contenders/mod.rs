@@ -1,0 +1,80 @@
+//! The timer stores that are compared.
+
+mod plain;
+mod std_heap;
+mod std_tree;
+
+use crate::checksum::{Checksum, Sum};
+use crate::timers::Timers;
+use crate::trial::{Entrant, Trial};
+use crate::workloads::Workload;
+
+/// A timer store that is compared.
+struct Contender {
+    name: &'static str,
+    /// By what its work is divided, for a store that would take too long.
+    divisor: u32,
+    run: fn(Workload) -> Sum,
+}
+
+impl Contender {
+    const fn new(name: &'static str, run: fn(Workload) -> Sum) -> Contender {
+        Contender {
+            name,
+            divisor: 1,
+            run,
+        }
+    }
+
+    fn entrant(&self, workload: Workload) -> Entrant {
+        let workload = workload.divided(self.divisor);
+        let run = self.run;
+        Entrant {
+            name: self.name,
+            units: u64::from(workload.units()),
+            expected: plain::wheel(workload),
+            run: Box::new(move || run(workload)),
+        }
+    }
+}
+
+// Runs a workload, and answers the sum that this kind of store is compared by.
+fn sum_of<S: Timers>(workload: Workload, timers: S) -> Sum {
+    let Checksum { ordered, unordered } = workload.run(timers);
+    if S::IN_ORDER {
+        Sum::Ordered(ordered)
+    } else {
+        Sum::Unordered(unordered)
+    }
+}
+
+/// All that are there, first the one that the others are compared with.
+fn contenders() -> Vec<Contender> {
+    let mut contenders = vec![
+        Contender::new("plain Rust wheel", |workload| {
+            Sum::Ordered(plain::wheel(workload).ordered)
+        }),
+        Contender::new("plain Rust heap", |workload| {
+            Sum::Ordered(plain::heap(workload).ordered)
+        }),
+        Contender::new("std BinaryHeap, lazy deletion", |workload| {
+            sum_of(workload, std_heap::StdHeap::new())
+        }),
+        Contender::new("std BTreeMap", |workload| {
+            sum_of(workload, std_tree::StdTree::new())
+        }),
+    ];
+    contenders
+}
+
+/// A workload over all stores that are there.
+pub fn trial(workload: Workload) -> Trial {
+    Trial {
+        title: workload.name(),
+        unit: workload.unit(),
+        entrants: contenders()
+            .iter()
+            .map(|contender| contender.entrant(workload))
+            .collect(),
+    }
+}

@@ -1,0 +1,7 @@
+//! The stores and the rig of this repository written by hand in plain Rust: the same rules, and nothing proved.
+
+pub mod heap;
+pub mod ledger;
+pub mod rows;
+pub mod store;
+pub mod wheel;

@@ -1,0 +1,112 @@
+//! Measuring contenders side by side.
+
+use crate::checksum::{Checksum, Sum};
+use crate::clock::thread_time;
+
+/// One contender's run of a trial.
+pub struct Entrant {
+    /// The contender's name.
+    pub name: &'static str,
+    /// How many units of work a run has.
+    pub units: u64,
+    /// What a right run sums up to.
+    pub expected: Checksum,
+    /// The run.
+    pub run: Box<dyn Fn() -> Sum>,
+}
+
+/// The same work for several contenders. The first one is what the others are compared with.
+pub struct Trial {
+    /// What the work is.
+    pub title: String,
+    /// What a time is given per.
+    pub unit: &'static str,
+    /// The contenders.
+    pub entrants: Vec<Entrant>,
+}
+
+/// What was measured of a contender.
+pub struct Figure {
+    /// The contender's name.
+    pub name: &'static str,
+    /// Nanoseconds of CPU time per unit: the median of the rounds.
+    pub nanoseconds: f64,
+    /// The median of each round's ratio to the first contender.
+    pub ratio: f64,
+    /// The lowest and the highest ratio of a round.
+    pub range: (f64, f64),
+    /// Whether the order of timers in one tick was compared too.
+    pub in_order: bool,
+    /// Whether every sum was right.
+    pub right: bool,
+}
+
+// What the rounds of one entrant gave.
+#[derive(Default)]
+struct Rounds {
+    nanoseconds: Vec<f64>,
+    ratios: Vec<f64>,
+    in_order: bool,
+    right: bool,
+}
+
+fn median(sorted: &[f64]) -> f64 {
+    sorted[sorted.len() / 2]
+}
+
+impl Rounds {
+    fn figure(mut self, name: &'static str) -> Figure {
+        self.nanoseconds.sort_by(f64::total_cmp);
+        self.ratios.sort_by(f64::total_cmp);
+        Figure {
+            name,
+            nanoseconds: median(&self.nanoseconds),
+            ratio: median(&self.ratios),
+            range: (self.ratios[0], self.ratios[self.ratios.len() - 1]),
+            in_order: self.in_order,
+            right: self.right,
+        }
+    }
+}
+
+impl Entrant {
+    // The nanoseconds per unit of one run, and its sum.
+    fn timed(&self) -> (f64, Sum) {
+        let begun = thread_time();
+        let sum = (self.run)();
+        let taken = thread_time() - begun;
+        (taken as f64 / self.units as f64, sum)
+    }
+}
+
+impl Trial {
+    /// Runs every round: each goes through all contenders, so that a busy minute of the machine hits them alike.
+    pub fn measure(&self, rounds: usize) -> Vec<Figure> {
+        let mut all: Vec<Rounds> = self
+            .entrants
+            .iter()
+            .map(|_| Rounds {
+                right: true,
+                ..Rounds::default()
+            })
+            .collect();
+        for _ in 0..rounds {
+            let mut base = f64::NAN;
+            for (i, (entrant, rounds)) in self.entrants.iter().zip(&mut all).enumerate() {
+                let (nanoseconds, sum) = entrant.timed();
+                if i == 0 {
+                    base = nanoseconds;
+                }
+                rounds.nanoseconds.push(nanoseconds);
+                rounds.ratios.push(nanoseconds / base);
+                rounds.in_order = matches!(sum, Sum::Ordered(_));
+                rounds.right &= entrant.expected.agrees(sum);
+            }
+        }
+        self.entrants
+            .iter()
+            .zip(all)
+            .map(|(entrant, rounds)| rounds.figure(entrant.name))
+            .collect()
+    }
+}
