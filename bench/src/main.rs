@@ -3,17 +3,27 @@
 mod checksum;
 mod clock;
 mod contenders;
+mod options;
 mod plain;
+#[cfg(proved)]
+mod proved;
 mod random;
 mod report;
+mod rigs;
 mod timers;
 mod trial;
 mod workloads;
 
+/// What the source of tokio-util's wheel takes to be its own crate's module.
+#[cfg(tokio_util)]
+#[allow(dead_code, unexpected_cfgs)]
+mod time {
+    include!(concat!(env!("OUT_DIR"), "/tokio_util.rs"));
+}
+
+use options::Options;
 use std::process::ExitCode;
 use workloads::Workload;
-
-const ROUNDS: usize = 9;
 
 const WORKLOADS: [Workload; 7] = [
     Workload::Restart {
@@ -43,10 +53,21 @@ const WORKLOADS: [Workload; 7] = [
 ];
 
 fn main() -> ExitCode {
+    let options = match Options::from_arguments() {
+        Ok(options) => options,
+        Err(usage) => {
+            eprintln!("{usage}");
+            return ExitCode::FAILURE;
+        }
+    };
     let mut right = true;
-    for workload in WORKLOADS {
-        let trial = contenders::trial(workload);
-        let figures = trial.measure(ROUNDS);
+    let trials = WORKLOADS.map(contenders::trial);
+    for mut trial in trials.into_iter().chain([rigs::trial()]) {
+        if !trial.title.contains(&options.trial) {
+            continue;
+        }
+        trial.keep(&options.contender);
+        let figures = trial.measure(options.rounds);
         report::print(&trial, &figures);
         right &= figures.iter().all(|figure| figure.right);
     }

@@ -80,6 +80,13 @@ impl Entrant {
 }
 
 impl Trial {
+    /// Keeps the first contender, and those with this in their name.
+    pub fn keep(&mut self, part: &str) {
+        let base = self.entrants[0].name;
+        self.entrants
+            .retain(|entrant| entrant.name == base || entrant.name.contains(part));
+    }
+
     /// Runs every round: each goes through all contenders, so that a busy minute of the machine hits them alike.
     pub fn measure(&self, rounds: usize) -> Vec<Figure> {
         let mut all: Vec<Rounds> = self

@@ -1,13 +1,21 @@
 //! The timer stores that are compared.
 
+#[cfg(any(libuv, libevent, libev))]
+mod c_library;
 mod plain;
 mod std_heap;
 mod std_tree;
+#[cfg(tokio_util)]
+mod tokio_util;
 
 use crate::checksum::{Checksum, Sum};
+#[cfg(proved)]
+use crate::proved::{self, Kind};
 use crate::timers::Timers;
 use crate::trial::{Entrant, Trial};
 use crate::workloads::Workload;
+#[cfg(any(libuv, libevent, libev))]
+use c_library::CTimers;
 
 /// A timer store that is compared.
 struct Contender {
@@ -50,21 +58,47 @@ fn sum_of<S: Timers>(workload: Workload, timers: S) -> Sum {
 
 /// All that are there, first the one that the others are compared with.
 fn contenders() -> Vec<Contender> {
-    let mut contenders = vec![
+    vec![
         Contender::new("plain Rust wheel", |workload| {
             Sum::Ordered(plain::wheel(workload).ordered)
+        }),
+        #[cfg(proved)]
+        Contender::new("proved wheel", |workload| {
+            proved::sum(Kind::Wheel, workload)
         }),
         Contender::new("plain Rust heap", |workload| {
             Sum::Ordered(plain::heap(workload).ordered)
         }),
+        #[cfg(proved)]
+        Contender::new("proved heap", |workload| proved::sum(Kind::Heap, workload)),
+        #[cfg(proved)]
+        Contender {
+            divisor: 20,
+            ..Contender::new("proved list", |workload| proved::sum(Kind::List, workload))
+        },
         Contender::new("std BinaryHeap, lazy deletion", |workload| {
             sum_of(workload, std_heap::StdHeap::new())
         }),
         Contender::new("std BTreeMap", |workload| {
             sum_of(workload, std_tree::StdTree::new())
         }),
-    ];
-    contenders
+        #[cfg(tokio_util)]
+        Contender::new("tokio-util wheel", |workload| {
+            sum_of(workload, tokio_util::TokioUtil::new())
+        }),
+        #[cfg(libuv)]
+        Contender::new("libuv timers", |workload| {
+            sum_of(workload, CTimers::<c_library::Libuv>::new())
+        }),
+        #[cfg(libevent)]
+        Contender::new("libevent min heap", |workload| {
+            sum_of(workload, CTimers::<c_library::Libevent>::new())
+        }),
+        #[cfg(libev)]
+        Contender::new("libev 4-heap", |workload| {
+            sum_of(workload, CTimers::<c_library::Libev>::new())
+        }),
+    ]
 }
 
 /// A workload over all stores that are there.

@@ -2,6 +2,7 @@
 
 pub mod heap;
 pub mod ledger;
+pub mod rig;
 pub mod rows;
 pub mod store;
 pub mod wheel;
