@@ -22,10 +22,12 @@ mod time {
 }
 
 use options::Options;
+use std::iter;
 use std::process::ExitCode;
+use trial::{Measured, Trial};
 use workloads::Workload;
 
-const WORKLOADS: [Workload; 7] = [
+const WORKLOADS: [Workload; 8] = [
     Workload::Restart {
         operations: 2_000_000,
     },
@@ -47,8 +49,12 @@ const WORKLOADS: [Workload; 7] = [
         operations: 2_000_000,
     },
     Workload::StartStop {
-        pending: 4_096,
+        pending: 2_048,
         operations: 2_000_000,
+    },
+    Workload::StartStop {
+        pending: 4_096,
+        operations: 100_000,
     },
 ];
 
@@ -60,18 +66,27 @@ fn main() -> ExitCode {
             return ExitCode::FAILURE;
         }
     };
-    let mut right = true;
-    let trials = WORKLOADS.map(contenders::trial);
-    for mut trial in trials.into_iter().chain([rigs::trial()]) {
-        if !trial.title.contains(&options.trial) {
-            continue;
-        }
+    let measured = |mut trial: Trial| {
         trial.keep(&options.contender);
-        let figures = trial.measure(options.rounds);
-        report::print(&trial, &figures);
-        right &= figures.iter().all(|figure| figure.right);
+        let measured = trial.measure(options.rounds);
+        report::list(&measured);
+        measured
+    };
+    let stores: Vec<Measured> = WORKLOADS
+        .into_iter()
+        .filter(|workload| workload.name().contains(&options.trial))
+        .map(contenders::trial)
+        .map(measured)
+        .collect();
+    let rigs: Vec<Measured> = iter::once(rigs::trial())
+        .filter(|trial| trial.title.contains(&options.trial))
+        .map(measured)
+        .collect();
+    report::table(&stores);
+    for many in ["2048 pending", "4096 pending"] {
+        report::growth(&stores, "start and stop, 64 pending", many);
     }
-    if right {
+    if stores.iter().chain(&rigs).all(Measured::is_right) {
         ExitCode::SUCCESS
     } else {
         ExitCode::FAILURE

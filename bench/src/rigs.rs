@@ -12,10 +12,10 @@ use crate::trial::{Entrant, Trial};
 use std::hint::black_box;
 
 /// How many steps a run has.
-const STEPS: u64 = 20_000;
+const STEPS: u64 = 10_000;
 
 /// How many runs are measured together, each with a rig of its own.
-const RUNS: u64 = 10;
+const RUNS: u64 = 20;
 
 const DEFAULT_DELAY: u32 = 10;
 const INTERVAL: u32 = 5_000;

@@ -25,6 +25,23 @@ pub struct Trial {
     pub entrants: Vec<Entrant>,
 }
 
+/// What a trial gave.
+pub struct Measured {
+    /// What the work was.
+    pub title: String,
+    /// What a time is given per.
+    pub unit: &'static str,
+    /// What was measured of each contender.
+    pub figures: Vec<Figure>,
+}
+
+impl Measured {
+    /// Whether every sum was right.
+    pub fn is_right(&self) -> bool {
+        self.figures.iter().all(|figure| figure.right)
+    }
+}
+
 /// What was measured of a contender.
 pub struct Figure {
     /// The contender's name.
@@ -88,7 +105,7 @@ impl Trial {
     }
 
     /// Runs every round: each goes through all contenders, so that a busy minute of the machine hits them alike.
-    pub fn measure(&self, rounds: usize) -> Vec<Figure> {
+    pub fn measure(self, rounds: usize) -> Measured {
         let mut all: Vec<Rounds> = self
             .entrants
             .iter()
@@ -110,10 +127,14 @@ impl Trial {
                 rounds.right &= entrant.expected.agrees(sum);
             }
         }
-        self.entrants
-            .iter()
-            .zip(all)
-            .map(|(entrant, rounds)| rounds.figure(entrant.name))
-            .collect()
+        let entrants = self.entrants.iter();
+        Measured {
+            title: self.title,
+            unit: self.unit,
+            figures: entrants
+                .zip(all)
+                .map(|(entrant, rounds)| rounds.figure(entrant.name))
+                .collect(),
+        }
     }
 }

@@ -34,13 +34,19 @@ impl Contender {
         }
     }
 
-    fn entrant(&self, workload: Workload) -> Entrant {
-        let workload = workload.divided(self.divisor);
+    // The contender's share of a workload, of which the sum is known.
+    fn entrant(&self, whole: Workload, sum_of_whole: Checksum) -> Entrant {
         let run = self.run;
+        let workload = whole.divided(self.divisor);
+        let expected = if workload == whole {
+            sum_of_whole
+        } else {
+            plain::wheel(workload)
+        };
         Entrant {
             name: self.name,
             units: u64::from(workload.units()),
-            expected: plain::wheel(workload),
+            expected,
             run: Box::new(move || run(workload)),
         }
     }
@@ -103,12 +109,13 @@ fn contenders() -> Vec<Contender> {
 
 /// A workload over all stores that are there.
 pub fn trial(workload: Workload) -> Trial {
+    let sum = plain::wheel(workload);
     Trial {
         title: workload.name(),
         unit: workload.unit(),
         entrants: contenders()
             .iter()
-            .map(|contender| contender.entrant(workload))
+            .map(|contender| contender.entrant(workload, sum))
             .collect(),
     }
 }

@@ -5,4 +5,6 @@ pub mod ledger;
 pub mod rig;
 pub mod rows;
 pub mod store;
+#[cfg(test)]
+mod tests;
 pub mod wheel;

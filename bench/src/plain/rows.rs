@@ -37,9 +37,24 @@ pub fn cleared<P, L>(rows: &mut [Row<P, L>]) -> &mut [Row<P, L>] {
     rows
 }
 
-// The row with this ticket that comes first from the home of `near` on.
+// The row at which the search for a ticket begins. Those of tickets that follow one another lie far apart, so that an entry which
+// has to go to a later row is not in the way of the next ones.
+fn home(count: usize, ticket: u32) -> usize {
+    let spread = u64::from(ticket.wrapping_mul(0x9E37_79B9));
+    ((spread * count as u64) >> 32) as usize
+}
+
+// The first row with this ticket from the home of `near` on, round the end if need be.
 fn seek<P, L>(rows: &[Row<P, L>], ticket: u32, near: u32) -> Option<usize> {
-    let home = near.checked_rem(rows.len() as u32)? as usize;
+    let home = home(rows.len(), near);
+    if rows.get(home)?.ticket == ticket {
+        return Some(home);
+    }
+    seek_on(rows, ticket, home)
+}
+
+#[inline(never)]
+fn seek_on<P, L>(rows: &[Row<P, L>], ticket: u32, home: usize) -> Option<usize> {
     let (before, after) = rows.split_at(home);
     match after.iter().position(|row| row.ticket == ticket) {
         Some(steps) => Some(home + steps),

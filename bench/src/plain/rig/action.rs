@@ -3,14 +3,14 @@
 use crate::plain::store::Fault;
 
 /// A word with its number on its channel.
-#[derive(Clone, Copy)]
+#[derive(Clone, Copy, PartialEq, Eq, Debug)]
 pub struct Segment {
     pub sequence: u32,
     pub word: u32,
 }
 
 /// A packet that was handed to the link, and what the link made of it.
-#[derive(Clone, Copy)]
+#[derive(Clone, Copy, PartialEq, Eq, Debug)]
 pub struct Transmission {
     /// The packet's number.
     pub packet: u32,
@@ -21,7 +21,7 @@ pub struct Transmission {
 }
 
 /// What an accepted call did.
-#[derive(Clone, Copy)]
+#[derive(Clone, Copy, PartialEq, Eq, Debug)]
 pub enum Action {
     Opened {
         channel: u8,
