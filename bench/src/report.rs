@@ -52,7 +52,9 @@ pub fn table(trials: &[Measured]) {
         }
         println!();
     }
-    println!("\n\\* fires the timers of one tick in any order");
+    if first.figures.iter().any(|figure| !figure.in_order) {
+        println!("\n\\* fires the timers of one tick in any order");
+    }
 }
 
 // A number with three digits.
