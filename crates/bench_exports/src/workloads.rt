@@ -1,0 +1,178 @@
+use crate::random::Random;
+use crate::sums::{Sum, mix};
+use std::alloc::{AllocError, Global};
+use timer::store::Store;
+
+const OWNERS: u32 = 64;
+
+// The most entries that can be due at once.
+const MOST_DUE: u32 = 4_096;
+
+// How many timers are restarted, and how far ahead they start at most.
+const RESTARTED: usize = 1_024;
+
+const RESTART_SPAN: u32 = 60_000;
+
+// How far ahead a timer that is to fire starts at most.
+const FIRE_SPAN: u32 = 100_000;
+
+/// What is done to a store that has nothing pending.
+#[derive(Clone, Copy)]
+pub enum Workload {
+    /// Timers are stopped and started anew at random, with a tick after every eighth; those that fire start anew.
+    Restart {
+        /// How many are stopped and started anew.
+        operations: u64,
+    },
+    /// Timers are started, and ticks pass until all have fired.
+    Fire {
+        /// How many timers.
+        timers: u32,
+        /// How often.
+        rounds: u64,
+    },
+    /// Ticks pass while far timers wait.
+    Idle {
+        /// How many ticks.
+        ticks: u64,
+    },
+    /// Timers are stopped and started anew at random, and no tick passes.
+    StartStop {
+        /// How many are pending.
+        pending: u32,
+        /// How many are stopped and started anew.
+        operations: u64,
+    },
+}
+
+impl Workload {
+    /// Does the work, and answers its sum.
+    pub fn run<S: Store<u32>>(self, heap: Global, store: &mut S) -> Result<u64, AllocError> {
+        let sum = match self {
+            Workload::Restart { operations } => restart(store, operations),
+            Workload::Fire { timers, rounds } => fire(store, timers, rounds),
+            Workload::Idle { ticks } => idle(store, ticks),
+            Workload::StartStop {
+                pending,
+                operations,
+            } => {
+                let mut tickets = vec![in heap; 0; pending as usize]?;
+                start_stop(store, &mut tickets, pending, operations)
+            }
+        };
+        Ok(sum.total)
+    }
+}
+
+// Starts a timer so many ticks ahead, and answers its ticket, or 0.
+fn start<S: Store<u32>>(store: &mut S, ahead: u32, payload: u32) -> u32 {
+    let deadline = store.now().wrapping_add(ahead);
+    let owner = (payload % OWNERS) as u8;
+    store.start(deadline, owner, payload).unwrap_or(0)
+}
+
+// Takes what is due, and starts it anew.
+fn renew<S: Store<u32>>(store: &mut S, tickets: &mut [u32; RESTARTED], sum: &mut Sum) {
+    for _ in 0..MOST_DUE {
+        let Some(entry) = store.take() else {
+            break;
+        };
+        let mixed = mix(store.now(), entry.payload);
+        sum.add(mixed);
+        if let Some(ticket) = tickets.get_mut(entry.payload as usize) {
+            let ahead = 1 + ((mixed >> 40) % u64::from(RESTART_SPAN)) as u32;
+            *ticket = start(store, ahead, entry.payload);
+        }
+    }
+}
+
+fn restart<S: Store<u32>>(store: &mut S, operations: u64) -> Sum {
+    let mut random = Random::new();
+    let mut tickets = [0; RESTARTED];
+    for (payload, ticket) in tickets.iter_mut().enumerate() {
+        let ahead = random.below(RESTART_SPAN).wrapping_add(1);
+        *ticket = start(store, ahead, payload as u32);
+    }
+    let mut sum = Sum::new();
+    for operation in 0..operations {
+        let payload = random.below(RESTARTED as u32);
+        if let Some(ticket) = tickets.get_mut(payload as usize) {
+            let _ = store.stop(*ticket);
+            let ahead = random.below(RESTART_SPAN).wrapping_add(1);
+            *ticket = start(store, ahead, payload);
+        }
+        if operation % 8 == 7 {
+            let _ = store.advance();
+            renew(store, &mut tickets, &mut sum);
+        }
+    }
+    sum
+}
+
+// Takes what is due.
+fn take_due<S: Store<u32>>(store: &mut S, sum: &mut Sum) {
+    for _ in 0..MOST_DUE {
+        let Some(entry) = store.take() else {
+            break;
+        };
+        sum.add(mix(store.now(), entry.payload));
+    }
+}
+
+fn fire<S: Store<u32>>(store: &mut S, timers: u32, rounds: u64) -> Sum {
+    let mut random = Random::new();
+    let mut sum = Sum::new();
+    for _ in 0..rounds {
+        for payload in 0..timers {
+            let ahead = random.below(FIRE_SPAN).wrapping_add(1);
+            start(store, ahead, payload);
+        }
+        for _ in 0..=FIRE_SPAN {
+            if store.pending() == 0 {
+                break;
+            }
+            let _ = store.advance();
+            take_due(store, &mut sum);
+        }
+    }
+    sum
+}
+
+fn idle<S: Store<u32>>(store: &mut S, ticks: u64) -> Sum {
+    let mut random = Random::new();
+    let mut sum = Sum::new();
+    for payload in 0..64 {
+        let ahead = random.below(6_000_000).wrapping_add(10_000_001);
+        start(store, ahead, payload);
+    }
+    for _ in 0..ticks {
+        let _ = store.advance();
+        take_due(store, &mut sum);
+    }
+    sum.add(mix(store.now(), 0));
+    sum
+}
+
+fn start_stop<S: Store<u32>>(
+    store: &mut S,
+    tickets: &mut [u32],
+    pending: u32,
+    operations: u64,
+) -> Sum {
+    let mut random = Random::new();
+    let mut sum = Sum::new();
+    for (ticket, payload) in tickets.iter_mut().zip(0..pending) {
+        let ahead = random.below(1_000_000).wrapping_add(1_000_000);
+        *ticket = start(store, ahead, payload);
+    }
+    for _ in 0..operations {
+        let payload = random.below(pending);
+        if let Some(ticket) = tickets.get_mut(payload as usize) {
+            let _ = store.stop(*ticket);
+            let ahead = random.below(1_000_000).wrapping_add(1_000_000);
+            *ticket = start(store, ahead, payload);
+            sum.add(mix(*ticket, payload));
+        }
+    }
+    sum
+}
