@@ -21,12 +21,22 @@ fn seek<P: Copy>(rows: &[Row<P>], ticket: u32) -> Option<usize>
     rows.iter().position(|row| row.ticket == ticket)
 }
 
-// A row that has the ticket, or with ticket 0 a vacant row; the search starts at `near` modulo the number of rows.
+// The row at which the search for the entry of a ticket starts: the part of all rows that the ticket's multiple of the golden section is past a whole number.
+// Tickets that follow one another begin far apart, so that an entry whose own row is not vacant takes that of a ticket that comes much later.
+fn home(count: usize, ticket: u32) -> usize
+    ensures { result ≤ count }
+{
+    let part = u64::from(ticket.wrapping_mul(0x9E37_79B9));
+    let row = part.wrapping_mul(count as u64) >> 32;
+    (row as usize).min(count)
+}
+
+// A row that has the ticket, or with ticket 0 a vacant row; the search starts at the home of the ticket `near`.
 // A new entry is put into the first vacant row from there on, so that it is nearly always found at once.
 fn seek_from<P: Copy>(rows: &[Row<P>], ticket: u32, near: u32) -> Option<usize>
     ensures { Sought rows.now ticket result }
 {
-    let home = (near as usize).checked_rem(rows.len())?;
+    let home = home(rows.len(), near);
     if let Some(x) = seek(&rows[home..], ticket) {
         return Some(home + x);
     }
