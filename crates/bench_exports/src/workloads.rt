@@ -13,8 +13,10 @@ const RESTARTED: usize = 1_024;
 
 const RESTART_SPAN: u32 = 60_000;
 
-// How far ahead a timer that is to fire starts at most.
+// How far ahead a timer that is to fire starts at most, and after how many ticks all have fired.
 const FIRE_SPAN: u32 = 100_000;
+
+const FIRE_TICKS: u32 = FIRE_SPAN + 1;
 
 /// What is done to a store that has nothing pending.
 #[derive(Clone, Copy)]
@@ -111,10 +113,7 @@ fn restart<S: Store<u32>>(store: &mut S, operations: u64) -> Sum {
 
 // Takes what is due.
 fn take_due<S: Store<u32>>(store: &mut S, sum: &mut Sum) {
-    for _ in 0..MOST_DUE {
-        let Some(entry) = store.take() else {
-            break;
-        };
+    while let Some(entry) = store.take() {
         sum.add(mix(store.now(), entry.payload));
     }
 }
@@ -127,7 +126,7 @@ fn fire<S: Store<u32>>(store: &mut S, timers: u32, rounds: u64) -> Sum {
             let ahead = random.below(FIRE_SPAN).wrapping_add(1);
             start(store, ahead, payload);
         }
-        for _ in 0..=FIRE_SPAN {
+        for _ in 0..FIRE_TICKS {
             if store.pending() == 0 {
                 break;
             }

@@ -10,6 +10,8 @@ use timer_rows::row::Row;
 
 impl WheelOrder {
     // Empties a slot from its front as the tick ends: each entry goes to the end of the slot of its new place.
+    // It is rarely called, and kept out of what every tick runs.
+    #[cold]
     fn pour<P: Copy>(&mut self, rows: &mut [Row<P>], tick: u32, slot: u8)
         requires waiting { Waiting tick rows.old }
         requires slots { Slotted tick rows.old self.old.slots.ends }
