@@ -45,6 +45,8 @@ impl<P: Copy> Order<P> for HeapOrder {
         ticket
     }
 
+    // Kept out of the test whether an entry is due, which every tick makes.
+    #[inline(never)]
     fn remove(&mut self, rows: &mut [Row<P>], ledger: &mut Ledger, x: usize) {
         let gap = position_of(rows, x);
         let last = usize::from(ledger.pending) - 1;

@@ -65,9 +65,10 @@ pub fn enter<P: Copy>(
     rows[x] = Row {
         ticket,
         deadline,
+        next: row.next,
+        prev: row.prev,
         owner,
         payload,
-        ..row
     };
     ticket
 }
