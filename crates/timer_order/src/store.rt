@@ -24,17 +24,19 @@ impl<'a, P: Copy, O: Order<P>> RowStore<'a, P, O> {
         clear(&mut rows[0..n]);
         RowStore {
             rows,
+            count: n as u16,
             ledger: Ledger::new(first, O::last_tick(last)),
             order: O::empty(n),
         }
     }
 
     // How many of the rows are used.
+    #[tactic(auto, using(timer_rows::proofs::Asked::capacity_used))]
     fn used(&self) -> usize
         ensures value { result ≡ min (length self.now.rows.now) 4096 }
         ensures capacity { result ≡ length (used self.now.rows.now) }
     {
-        capacity(self.rows)
+        usize::from(self.count)
     }
 
     // The row of the pending entry with the ticket.

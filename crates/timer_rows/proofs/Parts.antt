@@ -1,7 +1,7 @@
 -- The rows that a store uses, lent to a function and given back.
 use Rattle.std.proofs.Common.{◌≡◌, ℕ, ◌-◌, ◌<◌, ◌≤◌, min, List, ◌++◌, length, take, drop, sym, ap, ◌∙◌, subst, ⊎_elim, arith}
 use borrow.Rule.Slice.PartMut.{post_of}
-use Rattle.std.proofs.lemmas.List.{take_all, take_at, drop_all, append-nil, length-take, length-take-le}
+use Rattle.std.proofs.lemmas.List.{take_all, take_at, drop_all, append-nil, length-append, length-drop, length-take, length-take-le}
 use Rattle.std.proofs.lemmas.Slice.{drop-append-drop}
 use Rattle.std.proofs.lemmas.Bool.{cases_lt}
 use Rattle.timer_rows.specs.declared.row.Row.{Row}
@@ -25,6 +25,10 @@ module _ {P : Type 0} (rows : List (Row P)) (n : ℕ) (is : n ≡ min (length ro
   module _ (ys : List (Row P)) (same : length ys ≡ length (take (n - 0) rows)) where
     long : length ys ≡ n
     long = same ∙ length-take-le (n - 0) rows (omega arith) ∙ omega arith
+
+    pub whole_length : length (ys ++ post_of 0 (n - 0) rows) ≡ length rows
+    whole_length =
+        length-append ys (drop (n - 0) rows) ∙ omega (arith, long, length-drop (n - 0) rows)
 
     pub used_after : used (ys ++ post_of 0 (n - 0) rows) ≡ ys
     used_after =

@@ -47,6 +47,14 @@ impl<const N: usize> Sentinels<N> {
         }
     }
 
+    /// The first row of a slot, or its sentinel.
+    pub fn first<P: Copy>(&self, rows: &[Row<P>], slot: usize) -> u16
+        requires { slot < N }
+        ensures { result ≡ slice_index (ons rows.now self.now.ends) (length rows.now + slot) }
+    {
+        self.ends[slot].head
+    }
+
     fn set_next<P: Copy>(&mut self, rows: &mut [Row<P>], node: u16, to: u16)
         requires { node < length rows.old + N }
         ensures ons { ons rows.new self.new.ends ≡ slice_set (ons rows.old self.old.ends) node to }

@@ -11,8 +11,7 @@ impl WheelOrder {
         requires { length rows.now ≤ 4096 }
         ensures { result ≡ slice_index (ons rows.now self.now.slots.ends) (length rows.now + slot) }
     {
-        let sentinel = rows.len() as u16 + slot as u16;
-        self.slots.beside(rows, sentinel).head
+        self.slots.first(rows, slot as usize)
     }
 
     // Puts a row that is in no slot at the end of a slot.

@@ -1,5 +1,5 @@
-use Rattle.std.proofs.Common.{ap, ◌∙◌}
-use Rattle.timer_rows.proofs.Parts.{unused_after}
+use Rattle.std.proofs.Common.{min, sym, ap, ◌∙◌}
+use Rattle.timer_rows.proofs.Parts.{whole_length, unused_after}
 use Rattle.timer_rows.specs.Kept.{Kept}
 use Rattle.timer_order.proofs.Fresh.{fresh_long, fresh_kept, fresh_meant}
 use Rattle.timer_order.proofs.Lending.{whole_of}
@@ -15,6 +15,7 @@ invariant_of-result g c =
     let k = fresh_kept rows ys n is same c.clear.ensures c.args.first c.last_tick.result c.new.result c.new.ensures in
     let e = ap (λ l. l.last) c.new.ensures in
     record {
+      counted = is ∙ ap (λ k. min k 4096) (sym (whole_length rows n is ys same));
       kept = ∣ whole_of rows n is ys same (λ z. Kept z c.new.result) k ∣₁;
       held = ∣ whole_of rows n is ys same (λ z. g.O.Order.Holds c.empty.result z c.new.result) (c.empty.ensures ys c.new.result c.args.last (fresh_long rows ys n is same c.clear.ensures) c.clear.ensures k (e ∙ c.last_tick.ensures)) ∣₁;
     }

@@ -1,10 +1,10 @@
-use Rattle.std.proofs.Common.{◌≡◌, ◌<◌, ◌≢◌, List, length, get_or, sym, ◌∙◌, subst, arith, rules}
+use Rattle.std.proofs.Common.{min, ◌≡◌, ◌<◌, ◌≢◌, List, length, get_or, sym, ◌∙◌, subst, arith, rules, ap}
 use Rattle.std.proofs.lemmas.List.{length-take, get_or-take}
 use Rattle.timer.specs.Rules.{with_pending, without}
 use Rattle.timer_rows.specs.declared.row.Row.{Row}
 use Rattle.timer_rows.specs.Kept.{Kept}
 use Rattle.timer_rows.specs.Rows.{tickets, entries, used, meant}
-use Rattle.timer_rows.proofs.Parts.{used_both, unused_after}
+use Rattle.timer_rows.proofs.Parts.{whole_length, used_both, unused_after}
 use Rattle.timer_rows.proofs.Asked.{part_kept}
 use Rattle.timer_order.proofs.Lending.{part_of, part_held, whole_of}
 use Rattle.timer_order.proofs.row_store.RowStore.remove.Goals as goal
@@ -28,6 +28,7 @@ invariant_of-self g c =
     let s = c.args.self.now in
     let ys = c.remove.new.rows in
     record {
+      counted = s.counted ∙ ap (λ k. min k 4096) (sym (whole_length s.rows.now c.used-n.result c.used-n.ensures.value ys c.remove.auto.rows));
       kept = ∣ whole_of s.rows.now c.used-n.result c.used-n.ensures.value ys c.remove.auto.rows (λ z. Kept z c.remove.new.ledger) c.remove.ensures.kept ∣₁;
       held = ∣ whole_of s.rows.now c.used-n.result c.used-n.ensures.value ys c.remove.auto.rows (λ z. g.O.Order.Holds c.remove.new.self z c.remove.new.ledger) c.remove.ensures.held ∣₁;
     }

@@ -1,9 +1,9 @@
-use Rattle.std.proofs.Common.{◌≡◌, List, None, sym, ap, ◌∙◌}
+use Rattle.std.proofs.Common.{min, ◌≡◌, List, None, sym, ap, ◌∙◌}
 use Rattle.timer.specs.Rules.{check_rule, started, entered}
 use Rattle.timer_rows.specs.declared.row.Row.{Row}
 use Rattle.timer_rows.specs.Kept.{Kept}
 use Rattle.timer_rows.specs.Rows.{used, meant}
-use Rattle.timer_rows.proofs.Parts.{used_both, unused_after}
+use Rattle.timer_rows.proofs.Parts.{whole_length, used_both, unused_after}
 use Rattle.timer_rows.proofs.Asked.{part_kept}
 use Rattle.timer_order.proofs.Lending.{part_of, part_held, whole_of}
 use Rattle.timer_order.proofs.store.RowStoreStore.start.Goals as goal
@@ -22,6 +22,7 @@ invariant_of-self g c =
     let s = c.args.self.now in
     let ys = c.insert.new.rows in
     record {
+      counted = s.counted ∙ ap (λ k. min k 4096) (sym (whole_length s.rows.now c.used-n.result c.used-n.ensures.value ys c.insert.auto.rows));
       kept = ∣ whole_of s.rows.now c.used-n.result c.used-n.ensures.value ys c.insert.auto.rows (λ z. Kept z c.insert.new.ledger) c.insert.ensures.kept ∣₁;
       held = ∣ whole_of s.rows.now c.used-n.result c.used-n.ensures.value ys c.insert.auto.rows (λ z. g.O.Order.Holds c.insert.new.self z c.insert.new.ledger) c.insert.ensures.held ∣₁;
     }
