@@ -118,6 +118,18 @@ fn take_due<S: Store<u32>>(store: &mut S, sum: &mut Sum) {
     }
 }
 
+// Lets ticks pass until all timers have fired; a function of its own, so that the loop is laid out for itself.
+#[inline(never)]
+fn fire_all<S: Store<u32>>(store: &mut S, sum: &mut Sum) {
+    for _ in 0..FIRE_TICKS {
+        if store.pending() == 0 {
+            break;
+        }
+        let _ = store.advance();
+        take_due(store, sum);
+    }
+}
+
 fn fire<S: Store<u32>>(store: &mut S, timers: u32, rounds: u64) -> Sum {
     let mut random = Random::new();
     let mut sum = Sum::new();
@@ -126,13 +138,7 @@ fn fire<S: Store<u32>>(store: &mut S, timers: u32, rounds: u64) -> Sum {
             let ahead = random.below(FIRE_SPAN).wrapping_add(1);
             start(store, ahead, payload);
         }
-        for _ in 0..FIRE_TICKS {
-            if store.pending() == 0 {
-                break;
-            }
-            let _ = store.advance();
-            take_due(store, &mut sum);
-        }
+        fire_all(store, &mut sum);
     }
     sum
 }

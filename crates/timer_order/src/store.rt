@@ -56,6 +56,8 @@ impl<'a, P: Copy, O: Order<P>> RowStore<'a, P, O> {
     }
 
     // Gives up the entry of a row, and answers the row as it was.
+    // It is kept out of `take`, which a loop over ticks asks in each of them and which mostly finds nothing.
+    #[inline(never)]
     fn remove(&mut self, x: usize) -> Row<P>
         requires { (x < length (used self.old.rows.now)) × (slice_index (tickets (used self.old.rows.now)) x ≢ 0) }
         ensures row { result ≡ slice_index_or (used self.old.rows.now) x result }
