@@ -4,7 +4,7 @@ ghost use Rattle.timer.specs.Frame.{Framed};
 ghost use Rattle.engine.specs.Parts.{state_of};
 ghost use Rattle.calls.specs.Bodies.{close_body};
 
-use crate::record::open_record;
+use crate::record::open_channel;
 use channel::record::{Attempt, Channel};
 use engine::cancel::{cancel, cancel_all};
 use engine::rig::Rig;
@@ -28,10 +28,12 @@ pub fn close<W: Store<Packet>, R: Store<Attempt>, K: Store<u8>>(
     ensures resend { Framed R.Store resend.old resend.new }
     ensures keepalive { Framed K.Store keepalive.old keepalive.new }
 {
-    let (channel, record) = open_record(records, channel)?;
+    let channel = open_channel(records, channel)?;
+    let record = &mut records[channel.index()];
+    record.repair();
     cancel_all(resend, record.sending);
     let _ = cancel(keepalive, record.keepalive);
-    records[channel.index()] = record.closed();
+    record.closed();
     Ok(Action::Closed {
         channel: channel.number(),
     })

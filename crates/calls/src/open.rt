@@ -28,7 +28,7 @@ pub fn open<W: Store<Packet>, R: Store<Attempt>, K: Store<u8>>(
     ensures keepalive { Framed K.Store keepalive.old keepalive.new }
 {
     let channel = ChannelNumber::try_from(channel)?;
-    if !records[channel.index()].read().is_unused() {
+    if !records[channel.index()].is_unused() {
         return Err(RigFault::State);
     }
     if rig.low(wire, resend, keepalive) {

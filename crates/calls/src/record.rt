@@ -7,18 +7,14 @@ use channel::number::ChannelNumber;
 use channel::record::Channel;
 use trace::fault::RigFault;
 
-/// The channel with this number and its record, if it exists and is open.
-pub(crate) fn open_record(
-    records: &[Channel],
-    channel: u32,
-) -> Result<(ChannelNumber, Channel), RigFault>
+/// The channel with this number, if it exists and is open.
+pub(crate) fn open_channel(records: &[Channel], channel: u32) -> Result<ChannelNumber, RigFault>
     requires { length records.now ≡ 64 }
-    ensures { let found : Channel = as_read (slice_index_or records.now channel blank) in result ≡ (if no_channel channel then Err RigFault.Channel else if is_open found then Ok (channel, found) else Err RigFault.State) }
+    ensures { let found : Channel = as_read (slice_index_or records.now channel blank) in result ≡ (if no_channel channel then Err RigFault.Channel else if is_open found then Ok channel else Err RigFault.State) }
 {
     let channel = ChannelNumber::try_from(channel)?;
-    let record = records[channel.index()].read();
-    if record.is_open() {
-        Ok((channel, record))
+    if records[channel.index()].is_open() {
+        Ok(channel)
     } else {
         Err(RigFault::State)
     }

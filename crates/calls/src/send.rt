@@ -7,7 +7,7 @@ ghost use Rattle.protocol.specs.Rules.{send_start};
 ghost use Rattle.engine.specs.Parts.{state_of};
 ghost use Rattle.calls.specs.Bodies.{send_body};
 
-use crate::record::open_record;
+use crate::record::open_channel;
 use channel::number::ChannelNumber;
 use channel::record::{Attempt, Channel};
 use engine::rig::Rig;
@@ -34,7 +34,8 @@ pub fn send<W: Store<Packet>, R: Store<Attempt>, K: Store<u8>>(
     ensures wire { Framed W.Store wire.old wire.new }
     ensures resend { Framed R.Store resend.old resend.new }
 {
-    let (channel, record) = open_record(records, channel)?;
+    let channel = open_channel(records, channel)?;
+    let record = records[channel.index()].read();
     if rig.low(wire, resend, keepalive) || record.next == u32::MAX {
         return Err(RigFault::Spent);
     }
@@ -74,7 +75,9 @@ fn launch<W: Store<Packet>, R: Store<Attempt>, K: Store<u8>>(
     let attempt = Attempt::first(segment, tick);
     let ticket = Queue::Resend.named(resend.start(deadline, owner, attempt))?;
     let transmission = rig.transmit(wire, fates, owner, Packet::Data(segment));
-    records[channel.index()] = record.sent(ticket);
+    let record = &mut records[channel.index()];
+    record.repair();
+    record.sent(ticket);
     Ok(Action::Sent {
         channel: owner,
         segment,

@@ -3,7 +3,7 @@ ghost use Rattle.protocol.specs.Obeys.{Obeys};
 ghost use Rattle.engine.specs.Parts.{state_of};
 ghost use Rattle.calls.specs.Bodies.{take_body};
 
-use crate::record::open_record;
+use crate::record::open_channel;
 use channel::record::{Attempt, Channel};
 use engine::rig::Rig;
 use link::packet::Packet;
@@ -24,10 +24,11 @@ pub fn take<W: Store<Packet>, R: Store<Attempt>, K: Store<u8>>(
     requires { length records.old ≡ 64 }
     ensures obeys { Obeys (λ s. take_body s channel) (state_of rig.now fates.now (W.meaning wire.now) (R.meaning resend.now) (K.meaning keepalive.now) records.old) result (state_of rig.now fates.now (W.meaning wire.now) (R.meaning resend.now) (K.meaning keepalive.now) records.new) }
 {
-    let (channel, record) = open_record(records, channel)?;
-    records[channel.index()] = record.without_front();
+    let channel = open_channel(records, channel)?;
+    let record = &mut records[channel.index()];
+    record.repair();
     Ok(Action::Taken {
         channel: channel.number(),
-        segment: record.front(),
+        segment: record.take_front(),
     })
 }

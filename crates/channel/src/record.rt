@@ -119,18 +119,21 @@ impl Channel {
     }
 
     /// The record as every call reads it: `next` from `base` to eight past it, and the timeout in its range.
-    pub fn read(self) -> Channel
+    pub fn read(mut self) -> Channel
         ensures value { result ≡ as_read self }
         ensures once { as_read result ≡ result }
     {
-        Channel {
-            next: self
-                .next
-                .min(self.base.saturating_add(WINDOW))
-                .max(self.base),
-            estimator: self.estimator.in_range(),
-            ..self
-        }
+        self.repair();
+        self
+    }
+
+    /// Makes the record what every call reads of it.
+    pub fn repair(&mut self)
+        ensures { self.new ≡ as_read self.old }
+    {
+        let most = self.base.saturating_add(WINDOW);
+        self.next = self.next.min(most).max(self.base);
+        self.estimator = self.estimator.in_range();
     }
 
     /// Whether words can be sent and taken.
@@ -154,21 +157,19 @@ impl Channel {
         self.next.saturating_sub(self.base) == WINDOW
     }
 
-    /// The record once one more word was sent, whose resend timer has this ticket.
-    pub fn sent(mut self, ticket: u32) -> Channel
-        ensures { result ≡ sent self ticket }
+    /// Notes that one more word was sent, whose resend timer has this ticket.
+    pub fn sent(&mut self, ticket: u32)
+        ensures { self.new ≡ sent self.old ticket }
     {
         self.sending[place(self.next)] = Some(ticket);
         self.next = self.next.saturating_add(1);
-        self
     }
 
-    /// The record once the word of this number was sent again, whose resend timer has this ticket.
-    pub fn resent(mut self, sequence: u32, ticket: u32) -> Channel
-        ensures { result ≡ resent self sequence ticket }
+    /// Notes that the word of this number was sent again, whose resend timer has this ticket.
+    pub fn resent(&mut self, sequence: u32, ticket: u32)
+        ensures { self.new ≡ resent self.old sequence ticket }
     {
         self.sending[place(sequence)] = Some(ticket);
-        self
     }
 
     /// The ticket of the resend timer of the word with this number, if the word waits.
@@ -182,36 +183,26 @@ impl Channel {
         }
     }
 
-    /// The record once the word of this number was acknowledged, with the sample of the round-trip time that this gave, if any.
-    pub fn answered(mut self, sequence: u32, sample: Option<u32>) -> Channel
-        ensures { result ≡ answered self sequence sample }
+    /// Notes that the word of this number was acknowledged, with the sample of the round-trip time that this gave, if any.
+    pub fn answered(&mut self, sequence: u32, sample: Option<u32>)
+        ensures { self.new ≡ answered self.old sequence sample }
     {
         self.sending[place(sequence)] = None;
         self.base = rise(self.base, self.next, &self.sending);
         if let Some(ticks) = sample {
             self.estimator.sample(ticks);
         }
-        self
     }
 
-    /// The word to take next, if it is there.
-    pub fn front(&self) -> Option<Segment>
-        ensures { result ≡ front self.now }
+    /// Takes the word to take next, if it is there.
+    pub fn take_front(&mut self) -> Option<Segment>
+        ensures value { result ≡ front self.old }
+        ensures after { self.new ≡ without_front self.old }
     {
-        self.receiving[place(self.taken)].map(|word| Segment {
-            sequence: self.taken,
-            word,
-        })
-    }
-
-    /// The record once the word to take next was taken, or the same if it is not there.
-    pub fn without_front(mut self) -> Channel
-        ensures { result ≡ without_front self }
-    {
-        if self.receiving[place(self.taken)].take().is_some() {
-            self.taken = self.taken.saturating_add(1);
-        }
-        self
+        let sequence = self.taken;
+        let word = self.receiving[place(sequence)].take()?;
+        self.taken = self.taken.saturating_add(1);
+        Some(Segment { sequence, word })
     }
 
     // Whether there is a place for the word of this number.
@@ -228,30 +219,27 @@ impl Channel {
         sequence < self.taken || self.has_place(sequence)
     }
 
-    /// The record once this word arrived: it fills its place, if there is one and no word is there already.
-    pub fn received(mut self, segment: Segment) -> Channel
-        ensures { result ≡ received self segment }
+    /// Notes that this word arrived: it fills its place, if there is one and no word is there already.
+    pub fn received(&mut self, segment: Segment)
+        ensures { self.new ≡ received self.old segment }
     {
         if self.has_place(segment.sequence) {
             self.receiving[place(segment.sequence)].get_or_insert(segment.word);
         }
-        self
     }
 
-    /// The record of the same channel once it was closed.
-    pub fn closed(mut self) -> Channel
-        ensures { result ≡ closed self }
+    /// Notes that the channel was closed.
+    pub fn closed(&mut self)
+        ensures { self.new ≡ closed self.old }
     {
         self.status = Status::Closed;
-        self
     }
 
-    /// The record with another ticket of the keepalive timer.
-    pub fn kept_alive(mut self, ticket: u32) -> Channel
-        ensures { result ≡ kept_alive self ticket }
+    /// Notes another ticket of the keepalive timer.
+    pub fn kept_alive(&mut self, ticket: u32)
+        ensures { self.new ≡ kept_alive self.old ticket }
     {
         self.keepalive = ticket;
-        self
     }
 }
 

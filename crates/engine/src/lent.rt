@@ -1,5 +1,5 @@
 ghost use Rattle.std.specs.Prelude.{◌≡◌, if◌then◌else◌, length};
-ghost use Rattle.protocol.specs.State.{record_of, put, low};
+ghost use Rattle.protocol.specs.State.{record_of, low};
 ghost use Rattle.protocol.specs.Link.{transmit};
 ghost use Rattle.protocol.specs.Rules.{live};
 
@@ -51,17 +51,6 @@ impl<W: Store<Packet>, R: Store<Attempt>, K: Store<u8>> Lent<'_, '_, '_, '_, W, 
         ensures { result ≡ record_of (lent_state W.Store R.Store K.Store self.now) channel }
     {
         self.records[channel.index()].read()
-    }
-
-    /// Replaces the record of a channel.
-    pub fn put(&mut self, channel: ChannelNumber, record: Channel)
-        ensures after { lent_state W.Store R.Store K.Store self.new ≡ put (lent_state W.Store R.Store K.Store self.old) channel «record» }
-        ensures kept { Kept W.Store R.Store K.Store self.old self.new }
-        ensures wire { self.new.wire.now ≡ self.old.wire.now }
-        ensures resend { self.new.resend.now ≡ self.old.resend.now }
-        ensures keepalive { self.new.keepalive.now ≡ self.old.keepalive.now }
-    {
-        self.records[channel.index()] = record;
     }
 
     /// Sends a packet on a channel.

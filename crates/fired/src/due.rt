@@ -33,7 +33,10 @@ fn resend_open<W: Store<Packet>, R: Store<Attempt>, K: Store<u8>>(
     let deadline = lent.wire.now().saturating_add(pause);
     let transmission = lent.transmit(owner, Packet::Data(segment));
     let ticket = Queue::Resend.named(lent.resend.start(deadline, owner, attempt))?;
-    lent.put(channel, record.resent(segment.sequence, ticket));
+    let records = &mut *lent.records;
+    let record = &mut records[channel.index()];
+    record.repair();
+    record.resent(segment.sequence, ticket);
     Ok(Action::Resent {
         channel: owner,
         segment,
@@ -76,7 +79,10 @@ fn beat_open<W: Store<Packet>, R: Store<Attempt>, K: Store<u8>>(
     let deadline = lent.wire.now().saturating_add(lent.rig.interval);
     let transmission = lent.transmit(owner, Packet::Keepalive { sequence });
     let ticket = Queue::Keepalive.named(lent.keepalive.start(deadline, owner, owner))?;
-    lent.put(channel, record.kept_alive(ticket));
+    let records = &mut *lent.records;
+    let record = &mut records[channel.index()];
+    record.repair();
+    record.kept_alive(ticket);
     Ok(Action::KeepaliveSent {
         channel: owner,
         heartbeat: Some(Heartbeat {

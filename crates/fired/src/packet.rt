@@ -36,9 +36,12 @@ pub(crate) fn data<W: Store<Packet>, R: Store<Attempt>, K: Store<u8>>(
     ensures keepalive { lent.new.keepalive.now ≡ lent.old.keepalive.now }
 {
     let owner = channel.number();
-    let record = lent.record_of(channel);
-    lent.put(channel, record.received(segment));
-    if !record.acknowledges(segment.sequence) {
+    let records = &mut *lent.records;
+    let record = &mut records[channel.index()];
+    record.repair();
+    let acknowledges = record.acknowledges(segment.sequence);
+    record.received(segment);
+    if !acknowledges {
         return Action::DataArrived {
             channel: owner,
             segment,
@@ -67,15 +70,15 @@ pub(crate) fn acknowledgement<W: Store<Packet>, R: Store<Attempt>, K: Store<u8>>
     ensures kept { Kept W.Store R.Store K.Store lent.old lent.new }
     ensures keepalive { lent.new.keepalive.now ≡ lent.old.keepalive.now }
 {
-    let record = lent.record_of(channel);
-    let answered = match record.awaits(sequence) {
-        Some(ticket) => {
-            let sample = stop_attempt(lent.resend, ticket, lent.wire.now());
-            record.answered(sequence, sample)
-        }
-        None => record,
-    };
-    lent.put(channel, answered);
+    let records = &mut *lent.records;
+    let record = &mut records[channel.index()];
+    record.repair();
+    let awaited = record.awaits(sequence);
+    if let Some(ticket) = awaited {
+        let sample = stop_attempt(lent.resend, ticket, lent.wire.now());
+        let records = &mut *lent.records;
+        records[channel.index()].answered(sequence, sample);
+    }
     Action::AcknowledgementArrived {
         channel: channel.number(),
         sequence,
