@@ -483,6 +483,37 @@ fn fates(heap: Global, tally: &mut Tally) -> Result<(), AllocError> {
     Ok(())
 }
 
+// Words that are lost again and again, so that each wait is twice the one before up to the longest: before any sample, and after one.
+fn long_waits(heap: Global, tally: &mut Tally) -> Result<(), AllocError> {
+    let lost = [0_u16; 24];
+    let mut sampled = lost;
+    sampled[0] = 450;
+    sampled[1] = 450;
+    let acts = [
+        OPEN,
+        SEND,
+        Act::Steps(1_000),
+        SEND,
+        Act::Steps(250_000),
+        TAKE,
+        TAKE,
+        Act::Steps(1_000),
+    ];
+    for fates in [lost, sampled] {
+        compare(
+            heap,
+            &Scenario {
+                interval: 60_000,
+                fates: &fates,
+                room: 24,
+                ..Scenario::plain(&acts)
+            },
+            tally,
+        )?;
+    }
+    Ok(())
+}
+
 /// The refusals of the rig at their edges, and what else a caller can lend.
 pub fn compare_edges(heap: Global) -> Result<Tally, AllocError> {
     let mut tally = Tally::new();
@@ -497,5 +528,6 @@ pub fn compare_edges(heap: Global) -> Result<Tally, AllocError> {
     last_tickets(heap, &mut tally)?;
     records(heap, &mut tally)?;
     fates(heap, &mut tally)?;
+    long_waits(heap, &mut tally)?;
     Ok(tally)
 }
