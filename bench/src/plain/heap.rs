@@ -1,5 +1,6 @@
 //! A binary heap by deadline, then ticket, in which each row knows its position.
 
+use super::chains::{chain, unchain};
 use super::ledger::Ledger;
 use super::rows::{self, cleared, row_of, vacant_row};
 use super::store::{Expired, Fault, Store};
@@ -99,6 +100,7 @@ impl<'a, P: Copy> Heap<'a, P> {
                 self.sift_down(gap, last);
             }
         }
+        unchain(self.rows, x);
         let row = &mut self.rows[x];
         let expired = Expired {
             ticket: row.ticket,
@@ -106,7 +108,7 @@ impl<'a, P: Copy> Heap<'a, P> {
             payload: row.payload,
         };
         row.ticket = 0;
-        self.ledger.leave(expired.owner);
+        self.ledger.leave(expired.owner, x);
         expired
     }
 
@@ -140,8 +142,10 @@ impl<P: Copy> Store<P> for Heap<'_, P> {
 
     fn start(&mut self, deadline: u32, owner: u8, payload: P) -> Result<u32, Fault> {
         self.ledger.check(deadline, owner)?;
-        let x = vacant_row(self.rows, self.ledger.given + 1).ok_or(Fault::Full)?;
+        let x =
+            vacant_row(self.rows, self.ledger.given + 1, self.ledger.vacated).ok_or(Fault::Full)?;
         let ticket = self.ledger.enter(owner);
+        chain(self.rows, x, ticket);
         let row = &mut self.rows[x];
         row.ticket = ticket;
         row.deadline = deadline;

@@ -14,6 +14,8 @@ pub struct Ledger {
     pub given: u32,
     /// How many entries are pending.
     pub pending: u32,
+    /// The row that an entry left last.
+    pub vacated: u16,
     capacity: u32,
     counts: [u32; OWNERS],
     limits: [u32; OWNERS],
@@ -27,6 +29,7 @@ impl Ledger {
             last,
             given: 0,
             pending: 0,
+            vacated: 0,
             capacity: capacity as u32,
             counts: [0; OWNERS],
             limits: [capacity as u32; OWNERS],
@@ -64,9 +67,10 @@ impl Ledger {
         self.given
     }
 
-    /// Counts an entry that has left.
-    pub fn leave(&mut self, owner: u8) {
+    /// Counts an entry that has left a row.
+    pub fn leave(&mut self, owner: u8, row: usize) {
         self.pending -= 1;
+        self.vacated = row as u16;
         self.counts[usize::from(owner)] -= 1;
     }
 

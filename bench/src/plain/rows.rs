@@ -1,5 +1,7 @@
 //! The rows that are lent to a store, and how the row of a ticket is found.
 
+use super::chains::{chained, home, NO_ROW};
+
 /// How many rows a store uses at most.
 pub const MOST_ROWS: usize = 4_096;
 
@@ -11,6 +13,10 @@ pub struct Row<P, L> {
     pub payload: P,
     /// Where the entry stands in the store's order.
     pub link: L,
+    /// The row of the newest entry whose home this row is.
+    pub newest: u16,
+    /// The row of the next older entry with the same home as the one in this row.
+    pub older: u16,
     pub owner: u8,
 }
 
@@ -22,6 +28,8 @@ impl<P, L: Default> Row<P, L> {
             deadline: 0,
             payload,
             link: L::default(),
+            newest: NO_ROW,
+            older: NO_ROW,
             owner: 0,
         }
     }
@@ -33,31 +41,18 @@ pub fn cleared<P, L>(rows: &mut [Row<P, L>]) -> &mut [Row<P, L>] {
     let rows = &mut rows[..used];
     for row in rows.iter_mut() {
         row.ticket = 0;
+        row.newest = NO_ROW;
     }
     rows
 }
 
-// The row at which the search for a ticket begins. Those of tickets that follow one another lie far apart, so that an entry which
-// has to go to a later row is not in the way of the next ones.
-fn home(count: usize, ticket: u32) -> usize {
-    let spread = u64::from(ticket.wrapping_mul(0x9E37_79B9));
-    ((spread * count as u64) >> 32) as usize
-}
-
-// The first row with this ticket from the home of `near` on, round the end if need be.
-fn seek<P, L>(rows: &[Row<P, L>], ticket: u32, near: u32) -> Option<usize> {
-    let home = home(rows.len(), near);
-    if rows.get(home)?.ticket == ticket {
-        return Some(home);
-    }
-    seek_on(rows, ticket, home)
-}
-
+// The first row with this ticket from a row on, round the end if need be.
+#[cold]
 #[inline(never)]
-fn seek_on<P, L>(rows: &[Row<P, L>], ticket: u32, home: usize) -> Option<usize> {
-    let (before, after) = rows.split_at(home);
+fn seek_from<P, L>(rows: &[Row<P, L>], ticket: u32, first: usize) -> Option<usize> {
+    let (before, after) = rows.split_at(first);
     match after.iter().position(|row| row.ticket == ticket) {
-        Some(steps) => Some(home + steps),
+        Some(steps) => Some(first + steps),
         None => before.iter().position(|row| row.ticket == ticket),
     }
 }
@@ -67,10 +62,16 @@ pub fn row_of<P, L>(rows: &[Row<P, L>], ticket: u32) -> Option<usize> {
     if ticket == 0 {
         return None;
     }
-    seek(rows, ticket, ticket)
+    chained(rows, ticket).or_else(|| seek_from(rows, ticket, home(rows.len(), ticket)))
 }
 
-/// The vacant row for the entry of a ticket.
-pub fn vacant_row<P, L>(rows: &[Row<P, L>], ticket: u32) -> Option<usize> {
-    seek(rows, 0, ticket)
+/// A vacant row for the entry of a ticket: its home, the row that was left last, or the first one from the home on.
+pub fn vacant_row<P, L>(rows: &[Row<P, L>], ticket: u32, left: u16) -> Option<usize> {
+    let home = home(rows.len(), ticket);
+    for x in [home, usize::from(left)] {
+        if rows.get(x)?.ticket == 0 {
+            return Some(x);
+        }
+    }
+    seek_from(rows, 0, home)
 }

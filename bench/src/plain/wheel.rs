@@ -1,5 +1,6 @@
 //! A hierarchical timing wheel: four levels of 64 slots.
 
+use super::chains::{chain, unchain};
 use super::ledger::Ledger;
 use super::rows::{self, cleared, row_of, vacant_row};
 use super::store::{Expired, Fault, Store};
@@ -104,6 +105,7 @@ impl<'a, P: Copy> Wheel<'a, P> {
     // Takes the entry of a row out of the wheel.
     fn remove(&mut self, x: usize) -> Expired<P> {
         self.unlink(x);
+        unchain(self.rows, x);
         let row = &mut self.rows[x];
         let expired = Expired {
             ticket: row.ticket,
@@ -111,7 +113,7 @@ impl<'a, P: Copy> Wheel<'a, P> {
             payload: row.payload,
         };
         row.ticket = 0;
-        self.ledger.leave(expired.owner);
+        self.ledger.leave(expired.owner, x);
         expired
     }
 
@@ -166,8 +168,10 @@ impl<P: Copy> Store<P> for Wheel<'_, P> {
 
     fn start(&mut self, deadline: u32, owner: u8, payload: P) -> Result<u32, Fault> {
         self.ledger.check(deadline, owner)?;
-        let x = vacant_row(self.rows, self.ledger.given + 1).ok_or(Fault::Full)?;
+        let x =
+            vacant_row(self.rows, self.ledger.given + 1, self.ledger.vacated).ok_or(Fault::Full)?;
         let ticket = self.ledger.enter(owner);
+        chain(self.rows, x, ticket);
         let row = &mut self.rows[x];
         row.ticket = ticket;
         row.deadline = deadline;

@@ -1,17 +1,16 @@
 -- The heap when an entry comes or goes, and its first entry.
-use Rattle.std.proofs.Common.{◌≡◌, ℕ, ◌+◌, ◌-◌, ◌*◌, ◌<◌, ◌≤◌, ◌≢◌, List, [], ◌∷◌, length, get_or, set, sym, refl, ap, ◌∙◌, subst, arith}
-use Rattle.std.proofs.lemmas.List.{length-append, length-map, length-set, map-set, get_or-map, get_or-set_other}
-use Rattle.timer.specs.Meaning.{Meaning}
+use Rattle.std.proofs.Common.{◌≡◌, ℕ, ◌+◌, ◌-◌, ◌*◌, ◌<◌, ◌≤◌, ◌≢◌, List, [], ◌∷◌, length, get_or, set, sym, ap, ◌∙◌, subst, arith}
+use Rattle.std.proofs.lemmas.List.{length-append, length-map, get_or-map, get_or-set_other}
+use Rattle.timer.specs.Meaning.{Entry, Meaning}
 use Rattle.timer.specs.Rules.{entered, with_pending, without}
 use Rattle.timer.proofs.Checks.{Open}
 use Rattle.timer_rows.specs.declared.row.Row.{Row}
 use Rattle.timer_rows.specs.declared.ledger.Ledger.{Ledger}
 use Rattle.timer_rows.specs.Kept.{Kept}
-use Rattle.timer_rows.specs.Rows.{tickets, deadlines, nexts, prevs, contents, entry_of, entries, listed, filled, vacated, meant, NoneDue, Foremost}
-use Rattle.timer_rows.proofs.Columns.{column_same}
+use Rattle.timer_rows.specs.Rows.{tickets, deadlines, nexts, prevs, contents, entry_of, entries, vacated, meant, NoneDue, Foremost}
 use Rattle.timer_rows.proofs.Moves.{some_row}
 use Rattle.timer_rows.proofs.Pending.{entries_find, entries_most, length_without, live_row}
-use Rattle.timer_rows.proofs.Same.{same_column, same_length, same_meant}
+use Rattle.timer_rows.proofs.Same.{same_column, same_length, column_set, set_length}
 use Rattle.timer_heap.specs.Order.{Heap, Loose}
 use Rattle.timer_heap.specs.Positions.{Index, Indexed, Ordered, Unsettled, Sinking, key, keys, rank_at}
 use Rattle.timer_heap.proofs.Places.{added_cell, enter_index, left_cell, leave_index}
@@ -33,31 +32,25 @@ key_at rows i l =
 
 module _ {P : Type 0} (rows : List (Row P)) (l : Ledger) (k : Kept rows l) (h : Ordered rows l.pending) where
   -- an entry with the next ticket has come into the vacant row x, and to the end of the heap
-  module _ (x deadline owner : ℕ) (payload : P) (xl : x < length rows) (v : get_or (tickets rows) x 0 ≡ 0) (o : Open (meant rows l) deadline owner) (d : Row P) (t : ℕ) (mid rows' : List (Row P)) (e : t ≡ l.given + 1) (is : mid ≡ set rows x (filled (get_or rows x d) t deadline owner payload)) where
+  module _ (x deadline owner : ℕ) (payload : P) (xl : x < length rows) (v : get_or (tickets rows) x 0 ≡ 0) (o : Open (meant rows l) deadline owner) (t : ℕ) (mid rows' : List (Row P)) (e : t ≡ l.given + 1) (is : contents mid ≡ set (contents rows) x (record { ticket = t; deadline = deadline; owner = owner; payload = payload })) (links : (nexts mid ≡ nexts rows) × (prevs mid ≡ prevs rows)) where
     pub end_inside : l.pending < length rows
     end_inside = let m = entries_most rows in let s = k.sized in let n = o.room in omega arith
 
     pub mid_long : length mid ≡ length rows
-    mid_long = ap length is ∙ length-set rows x _
-
-    mid_nexts : nexts mid ≡ nexts rows
-    mid_nexts = ap nexts is ∙ column_same (λ r. r.next) rows x _ d xl refl
-
-    mid_prevs : prevs mid ≡ prevs rows
-    mid_prevs = ap prevs is ∙ column_same (λ r. r.prev) rows x _ d xl refl
+    mid_long = set_length rows mid x _ is
 
     module _ (same : contents rows' ≡ contents mid) (cells : nexts rows' ≡ set (nexts mid) l.pending x) (places : prevs rows' ≡ set (prevs mid) x l.pending) where
       now_tickets : tickets rows' ≡ set (tickets rows) x t
-      now_tickets = same_column (λ e. e.ticket) mid rows' same ∙ ap tickets is ∙ map-set (λ r. r.ticket) rows x _
+      now_tickets = same_column (λ e. e.ticket) mid rows' same ∙ column_set (λ e. e.ticket) rows mid x _ is
 
       now_keys : keys rows' ≡ set (keys rows) x (deadline * 4294967296 + t)
-      now_keys = same_column key mid rows' same ∙ ap keys is ∙ map-set (λ r. key (entry_of r)) rows x _
+      now_keys = same_column key mid rows' same ∙ column_set key rows mid x _ is
 
       now_cells : nexts rows' ≡ set (nexts rows) l.pending x
-      now_cells = cells ∙ ap (λ c. set c l.pending x) mid_nexts
+      now_cells = cells ∙ ap (λ c. set c l.pending x) links.0
 
       now_places : prevs rows' ≡ set (prevs rows) x l.pending
-      now_places = places ∙ ap (λ c. set c x l.pending) mid_prevs
+      now_places = places ∙ ap (λ c. set c x l.pending) links.1
 
       tn : t ≢ 0
       tn z = omega (arith, z, e)
@@ -112,12 +105,12 @@ module _ {P : Type 0} (rows : List (Row P)) (l : Ledger) (k : Kept rows l) (h : 
       last_below : last < l.pending
       last_below = omega (arith, gap_inside)
 
-      module _ (mid rows' : List (Row P)) (cells : nexts mid ≡ set (set (nexts rows) gap (get_or (nexts rows) last 0)) last (get_or (nexts rows) gap 0)) (places : prevs mid ≡ set (set (prevs rows) (get_or (nexts rows) last 0) gap) (get_or (nexts rows) gap 0) last) (same : contents mid ≡ contents rows) (is : (d : Row P) → rows' ≡ set mid x (vacated (get_or mid x d))) where
+      module _ (mid rows' : List (Row P)) (cells : nexts mid ≡ set (set (nexts rows) gap (get_or (nexts rows) last 0)) last (get_or (nexts rows) gap 0)) (places : prevs mid ≡ set (set (prevs rows) (get_or (nexts rows) last 0) gap) (get_or (nexts rows) gap 0) last) (same : contents mid ≡ contents rows) (is : (d : Entry P) → contents rows' ≡ set (contents mid) x (vacated (get_or (contents mid) x d))) (links : (nexts rows' ≡ nexts mid) × (prevs rows' ≡ prevs mid)) where
         xl : x < length mid
         xl = omega (arith, live_row rows x n, same_length rows mid same)
 
-        d : Row P
-        d = some_row mid x xl
+        d : Entry P
+        d = entry_of (some_row mid x xl)
 
         at_end : get_or (nexts mid) last 0 ≡ x
         at_end = cell_b rows l.pending h.index gap last gap_below last_below mid cells places same ∙ ap (λ i. get_or (nexts rows) i 0) ge ∙ h.index.there x n
@@ -127,23 +120,20 @@ module _ {P : Type 0} (rows : List (Row P)) (l : Ledger) (k : Kept rows l) (h : 
             subst (λ m. Indexed mid m) (let b = last_below in omega arith)
             (swapped_index rows l.pending h.index gap last gap_below last_below mid cells places same)
 
-        left_nexts : nexts rows' ≡ nexts mid
-        left_nexts = ap nexts (is d) ∙ column_same (λ r. r.next) mid x _ d xl refl
-
         left_rank : (i : ℕ) → i < last → i ≢ gap → rank_at rows' i ≡ rank_at rows i
         left_rank i b ng =
             let a = left_cell (tickets mid) (nexts mid) (prevs mid) last x mid_index at_end i b in
-            ap (λ c. get_or (keys rows') (get_or c i 0) 0) left_nexts
-            ∙ ap (λ c. get_or c (get_or (nexts mid) i 0) 0) (ap keys (is d) ∙ map-set (λ r. key (entry_of r)) mid x _)
+            ap (λ c. get_or (keys rows') (get_or c i 0) 0) links.0
+            ∙ ap (λ c. get_or c (get_or (nexts mid) i 0) 0) (column_set key mid rows' x _ (is d))
             ∙ get_or-set_other (keys mid) x (get_or (nexts mid) i 0) _ 0 a
             ∙ swapped_other rows l.pending h.index gap last gap_below last_below mid cells places same i ng (omega arith)
 
         left_index : Indexed rows' last
         left_index =
             index_at last
-            (ap tickets (is d) ∙ map-set (λ r. r.ticket) mid x _)
-            left_nexts
-            (ap prevs (is d) ∙ column_same (λ r. r.prev) mid x _ d xl refl)
+            (column_set (λ e. e.ticket) mid rows' x _ (is d))
+            links.0
+            links.1
             (leave_index (tickets mid) (nexts mid) (prevs mid) last x mid_index at_end)
 
         left_loose : Loose (rank_at rows') gap last
@@ -154,7 +144,7 @@ module _ {P : Type 0} (rows : List (Row P)) (l : Ledger) (k : Kept rows l) (h : 
         pub left_unsettled : gap < last → Unsettled rows' gap last
         left_unsettled b =
             record {
-              few = omega (arith, k.few, same_length rows mid same, ap length (is d) ∙ length-set mid x _);
+              few = omega (arith, k.few, same_length rows mid same, set_length mid rows' x _ (is d));
               inside = b;
               index = left_index;
               loose = left_loose;
@@ -173,14 +163,6 @@ module _ {P : Type 0} (rows : List (Row P)) (l : Ledger) (k : Kept rows l) (h : 
         let f = entries_find rows x (some_row rows x xl) k.apart xl n in
         let c = length_without (get_or (tickets rows) x 0) (entries rows) _ f in
         omega arith
-
-    -- what the store means then
-    pub left_meant : (mid rows' : List (Row P)) (l' : Ledger) → contents mid ≡ contents rows → meant rows' l' ≡ with_pending (meant mid l) (without (get_or (tickets mid) x 0) (entries mid)) → meant rows' l' ≡ with_pending (meant rows l) (without (get_or (tickets rows) x 0) (entries rows))
-    left_meant mid rows' l' same is =
-        is
-        ∙ ap (λ (m : Meaning P). with_pending m (without (get_or (tickets mid) x 0) (entries mid))) (same_meant rows mid l same)
-        ∙ ap (λ ts. with_pending (meant rows l) (without (get_or ts x 0) (entries mid))) (same_column (λ e. e.ticket) rows mid same)
-        ∙ ap (λ es. with_pending (meant rows l) (without (get_or (tickets rows) x 0) (listed es))) same
 
     pub left_all : (rows' : List (Row P)) (l' : Ledger) → Kept rows' l' → meant rows' l' ≡ with_pending (meant rows l) (without (get_or (tickets rows) x 0) (entries rows)) → (last : ℕ) → last ≡ l.pending - 1 → Ordered rows' last → Ordered rows' l'.pending
     left_all rows' l' kept is last e o = subst (λ m. Ordered rows' m) (e ∙ sym (left_count rows' l' kept is)) o

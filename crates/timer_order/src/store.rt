@@ -55,20 +55,25 @@ impl<'a, P: Copy, O: Order<P>> RowStore<'a, P, O> {
         self.order.first_due(&self.rows[0..n], &self.ledger)
     }
 
-    // Gives up the entry of a row, and answers the row as it was.
+    // A row that is used.
+    fn row_at(&self, x: usize) -> Row<P>
+        requires { x < length (used self.now.rows.now) }
+        ensures { result ≡ slice_index_or (used self.now.rows.now) x result }
+    {
+        self.rows[x]
+    }
+
+    // Gives up the entry of a row.
     // It is kept out of `take`, which a loop over ticks asks in each of them and which mostly finds nothing.
     #[inline(never)]
-    fn remove(&mut self, x: usize) -> Row<P>
+    fn remove(&mut self, x: usize)
         requires { (x < length (used self.old.rows.now)) × (slice_index (tickets (used self.old.rows.now)) x ≢ 0) }
-        ensures row { result ≡ slice_index_or (used self.old.rows.now) x result }
         ensures after { meant (used self.new.rows.now) self.new.ledger ≡ with_pending (meant (used self.old.rows.now) self.old.ledger) (without (slice_index (tickets (used self.old.rows.now)) x) (entries (used self.old.rows.now))) }
         ensures unused { unused self.new.rows.now ≡ unused self.old.rows.now }
         ensures lender { self.new.rows.ghost_name ≡ self.old.rows.ghost_name }
     {
         let n = self.used();
-        let row = self.rows[x];
         self.order.remove(&mut self.rows[0..n], &mut self.ledger, x);
-        row
     }
 }
 
@@ -143,13 +148,15 @@ impl<'a, P: Copy, O: Order<P>> Store<P> for RowStore<'a, P, O> {
 
     fn stop(&mut self, ticket: u32) -> Result<(u8, P), TimerFault> {
         let x = self.row_of(ticket).ok_or(TimerFault::Missing)?;
-        let row = self.remove(x);
+        let row = self.row_at(x);
+        self.remove(x);
         Ok((row.owner, row.payload))
     }
 
     fn take(&mut self) -> Option<Expired<P>> {
         let x = self.first_due()?;
-        let row = self.remove(x);
+        let row = self.row_at(x);
+        self.remove(x);
         Some(Expired {
             ticket: row.ticket,
             owner: row.owner,

@@ -120,8 +120,8 @@ module _ {P : Type 0} (rows : List (Row P)) (l : Ledger) (k : Kept rows l) (x : 
         let c = k.counted s.owner leave_known in
         (omega (arith, k.sized), grind (arith, nat_tests))
 
-    pub kept_leave : Kept (set rows x r) (lowered l s.owner)
-    kept_leave =
+    pub kept_leave : (y : ℕ) → Kept (set rows x r) (lowered l s.owner y)
+    kept_leave y =
         record {
           few = simp length-set k.few;
           apart = λ i j n e.
@@ -154,8 +154,8 @@ module _ {P : Type 0} (rows : List (Row P)) (l : Ledger) (k : Kept rows l) (x : 
           clock = k.clock;
         }
 
-    pub meant_leave : meant (set rows x r) (lowered l s.owner) ≡ with_pending (meant rows l) (without (get_or (tickets rows) x 0) (entries rows))
-    meant_leave = let n = length-set rows x r in rw (entries_but, n)
+    pub meant_leave : (y : ℕ) → meant (set rows x r) (lowered l s.owner y) ≡ with_pending (meant rows l) (without (get_or (tickets rows) x 0) (entries rows))
+    meant_leave y = let n = length-set rows x r in rw (entries_but, n)
 
 -- where the store is not full, no owner has reached its limit
 pub check_none : {P : Type 0} (rows : List (Row P)) (l : Ledger) → Kept rows l → (deadline owner : ℕ) → leb deadline l.now ≡ false → ltb l.last deadline ≡ false → owner < 64 → eqb l.given 4294967295 ≡ false → l.pending ≢ length rows → None ≡ check_rule (meant rows l) deadline owner

@@ -1,15 +1,15 @@
 -- The slots of a store after an entry has come or gone.
 use Rattle.std.proofs.Common.{◌≡◌, ℕ, ◌+◌, ◌-◌, ◌<◌, ◌≤◌, List, [], ◌∷◌, ◌++◌, map, length, get_or, set, sym, refl, ap, ◌∙◌, ⊎_elim, arith}
-use Rattle.std.proofs.lemmas.List.{length-map, length-set, map-set, set-append_left, get_or_past, get_or-set_same}
+use Rattle.std.proofs.lemmas.List.{length-map, set-append_left, get_or_past, get_or-set_same}
 use Rattle.std.proofs.lemmas.Bool.{cases_lt}
 use Rattle.timer.specs.Meaning.{Entry}
 use Rattle.timer_rows.specs.declared.row.Row.{Row}
 use Rattle.timer_rows.specs.declared.ends.Ends.{Ends}
 use Rattle.timer_rows.specs.Links.{ons, backs, Linked, homes_by, keys_by, Slots}
-use Rattle.timer_rows.specs.Rows.{contents, entry_of, vacated}
-use Rattle.timer_rows.proofs.Columns.{end_link, column_length, column_same}
+use Rattle.timer_rows.specs.Rows.{nexts, prevs, contents, entry_of}
+use Rattle.timer_rows.proofs.Columns.{end_link, column_length}
 use Rattle.timer_rows.proofs.Linking.{linked_out, linked_in, linked_key, linked_at}
-use Rattle.timer_rows.proofs.Same.{same_column, same_length}
+use Rattle.timer_rows.proofs.Same.{same_column, same_length, column_set, set_length}
 
 module _ {P : Type 0} where
   -- a list that is not empty has a row
@@ -17,62 +17,52 @@ module _ {P : Type 0} where
   some_row [] x l = absurd (omega arith)
   some_row (r ∷ rs) x l = r
 
-  -- a row that changes and keeps its links changes no link
-  pub ons_kept : (rows mid : List (Row P)) (es : List Ends) (x : ℕ) (r d : Row P) → x < length rows → mid ≡ set rows x r → r.next ≡ (get_or rows x d).next → ons mid es ≡ ons rows es
-  ons_kept rows mid es x r d l is nx =
-      ap (λ (z : List (Row P)). ons z es) is ∙ ap (λ c. c ++ map (λ e. e.head) es) (column_same (λ r. r.next) rows x r d l nx)
+  -- the links of all nodes, where those of the rows stay
+  pub ons_same : (a b : List (Row P)) (es : List Ends) → nexts b ≡ nexts a → ons b es ≡ ons a es
+  ons_same a b es e = ap (λ c. c ++ map (λ e. e.head) es) e
 
-  pub backs_kept : (rows mid : List (Row P)) (es : List Ends) (x : ℕ) (r d : Row P) → x < length rows → mid ≡ set rows x r → r.prev ≡ (get_or rows x d).prev → backs mid es ≡ backs rows es
-  backs_kept rows mid es x r d l is pv =
-      ap (λ (z : List (Row P)). backs z es) is ∙ ap (λ c. c ++ map (λ e. e.tail) es) (column_same (λ r. r.prev) rows x r d l pv)
+  pub backs_same : (a b : List (Row P)) (es : List Ends) → prevs b ≡ prevs a → backs b es ≡ backs a es
+  backs_same a b es e = ap (λ c. c ++ map (λ e. e.tail) es) e
 
 module _ {P : Type 0} (home : Entry P → ℕ) (tail : List ℕ) (key : Entry P → ℕ) where
-  -- the columns when what one row holds changes
-  homes_set : (rows : List (Row P)) (x : ℕ) (r : Row P) → x < length rows → homes_by home tail (set rows x r) ≡ set (homes_by home tail rows) x (home (entry_of r))
-  homes_set rows x r l =
-      ap (λ c. c ++ tail) (map-set (λ r. home (entry_of r)) rows x r)
-      ∙ sym (set-append_left (map (λ r. home (entry_of r)) rows) tail x (home (entry_of r)) (omega (arith, length-map rows (λ r. home (entry_of r)))))
+  -- the slots of the rows when what one row holds changes
+  homes_set : (a b : List (Row P)) (x : ℕ) (e : Entry P) → x < length a → contents b ≡ set (contents a) x e → homes_by home tail b ≡ set (homes_by home tail a) x (home e)
+  homes_set a b x e l is =
+      ap (λ c. c ++ tail) (column_set home a b x e is)
+      ∙ sym (set-append_left (map (λ r. home (entry_of r)) a) tail x (home e) (omega (arith, length-map a (λ r. home (entry_of r)))))
 
   -- and when only links change
   homes_same : (a b : List (Row P)) → contents b ≡ contents a → homes_by home tail b ≡ homes_by home tail a
   homes_same a b e = ap (λ c. c ++ tail) (same_column home a b e)
 
-  -- the slot of a row
   -- the row x is unlinked, and then gives up its entry
-  pub slots_leave : (m : ℕ) (rows mid rows' : List (Row P)) (es es' : List Ends) (x : ℕ) (d : Row P) → Slots home tail key rows es m → x < length rows → get_or (homes_by home tail rows) x m < m → contents mid ≡ contents rows → ons mid es' ≡ set (ons rows es) (get_or (backs rows es) x 0) (get_or (ons rows es) x 0) → backs mid es' ≡ set (backs rows es) (get_or (ons rows es) x 0) (get_or (backs rows es) x 0) → rows' ≡ set mid x (vacated (get_or mid x d)) → home (entry_of (vacated (get_or mid x d))) ≡ m → Slots home tail key rows' es' m
-  slots_leave m rows mid rows' es es' x d k l w same on back is gone =
+  pub slots_leave : (m : ℕ) (rows mid rows' : List (Row P)) (es es' : List Ends) (x : ℕ) (e : Entry P) → Slots home tail key rows es m → x < length rows → get_or (homes_by home tail rows) x m < m → contents mid ≡ contents rows → ons mid es' ≡ set (ons rows es) (get_or (backs rows es) x 0) (get_or (ons rows es) x 0) → backs mid es' ≡ set (backs rows es) (get_or (ons rows es) x 0) (get_or (backs rows es) x 0) → contents rows' ≡ set (contents mid) x e → (nexts rows' ≡ nexts mid) × (prevs rows' ≡ prevs mid) → home e ≡ m → Slots home tail key rows' es' m
+  slots_leave m rows mid rows' es es' x e k l w same on back is links gone =
       let n = same_length rows mid same in
       let lm : x < length mid = omega arith in
-      let r = vacated (get_or mid x d) in
       let a = linked_out (ons rows es) (backs rows es) (homes_by home tail rows) (keys_by key rows) (length rows) m k x l w in
       let hx : get_or (set (homes_by home tail rows) x m) x m ≡ m = get_or-set_same (homes_by home tail rows) x m m (omega (arith, k.homes)) in
-      let b = linked_key _ _ _ _ (length rows) m a x (key (entry_of r)) l (omega (arith, hx)) in
+      let b = linked_key _ _ _ _ (length rows) m a x (key e) l (omega (arith, hx)) in
       linked_at m
-      (ons_kept mid rows' es' x r d lm is refl ∙ on)
-      (backs_kept mid rows' es' x r d lm is refl ∙ back)
-      (ap (homes_by home tail) is ∙ homes_set mid x r lm ∙ ap (λ c. set c x (home (entry_of r))) (homes_same rows mid same) ∙ ap (λ v. set (homes_by home tail rows) x v) gone)
-      (ap (keys_by key) is ∙ map-set (λ r. key (entry_of r)) mid x r ∙ ap (λ c. set c x (key (entry_of r))) (same_column key rows mid same))
-      (ap length is ∙ length-set mid x r ∙ n)
+      (ons_same mid rows' es' links.0 ∙ on)
+      (backs_same mid rows' es' links.1 ∙ back)
+      (homes_set mid rows' x e lm is ∙ ap (λ c. set c x (home e)) (homes_same rows mid same) ∙ ap (λ v. set (homes_by home tail rows) x v) gone)
+      (column_set key mid rows' x e is ∙ ap (λ c. set c x (key e)) (same_column key rows mid same))
+      (set_length mid rows' x e is ∙ n)
       b
 
   -- the vacant row x takes in an entry, and is then linked before the node q
-  pub slots_enter : (m : ℕ) (rows mid rows' : List (Row P)) (es es' : List Ends) (x q : ℕ) (d r : Row P) → Slots home tail key rows es m → x < length rows → m ≤ get_or (homes_by home tail rows) x m → r.next ≡ (get_or rows x d).next → r.prev ≡ (get_or rows x d).prev → get_or (homes_by home tail rows) q m ≡ home (entry_of r) → home (entry_of r) < m → (get_or (backs rows es) q 0 < length rows → get_or (keys_by key rows) (get_or (backs rows es) q 0) 0 < key (entry_of r)) → (q < length rows → key (entry_of r) < get_or (keys_by key rows) q 0) → mid ≡ set rows x r → contents rows' ≡ contents mid → ons rows' es' ≡ set (set (ons mid es) (get_or (backs mid es) q 0) x) x q → backs rows' es' ≡ set (set (backs mid es) q x) x (get_or (backs mid es) q 0) → Slots home tail key rows' es' m
-  slots_enter m rows mid rows' es es' x q d r k l free nx pv hq hm below above is same on back =
-      let s = home (entry_of r) in
-      let v = key (entry_of r) in
-      let a = linked_in (ons rows es) (backs rows es) (homes_by home tail rows) (keys_by key rows) (length rows) m k x q s v l free hq hm below above in
-      let onm = ons_kept rows mid es x r d l is nx in
-      let bkm = backs_kept rows mid es x r d l is pv in
-      let hm' : homes_by home tail mid ≡ set (homes_by home tail rows) x s = ap (homes_by home tail) is ∙ homes_set rows x r l in
-      let km : keys_by key mid ≡ set (keys_by key rows) x v = ap (keys_by key) is ∙ map-set (λ r. key (entry_of r)) rows x r in
-      let n = same_length mid rows' same in
-      let nm : length mid ≡ length rows = ap length is ∙ length-set rows x r in
+  pub slots_enter : (m : ℕ) (rows mid rows' : List (Row P)) (es es' : List Ends) (x q : ℕ) (e : Entry P) → Slots home tail key rows es m → x < length rows → m ≤ get_or (homes_by home tail rows) x m → get_or (homes_by home tail rows) q m ≡ home e → home e < m → (get_or (backs rows es) q 0 < length rows → get_or (keys_by key rows) (get_or (backs rows es) q 0) 0 < key e) → (q < length rows → key e < get_or (keys_by key rows) q 0) → contents mid ≡ set (contents rows) x e → (nexts mid ≡ nexts rows) × (prevs mid ≡ prevs rows) → contents rows' ≡ contents mid → ons rows' es' ≡ set (set (ons mid es) (get_or (backs mid es) q 0) x) x q → backs rows' es' ≡ set (set (backs mid es) q x) x (get_or (backs mid es) q 0) → Slots home tail key rows' es' m
+  slots_enter m rows mid rows' es es' x q e k l free hq hm below above is links same on back =
+      let a = linked_in (ons rows es) (backs rows es) (homes_by home tail rows) (keys_by key rows) (length rows) m k x q (home e) (key e) l free hq hm below above in
+      let onm = ons_same rows mid es links.0 in
+      let bkm = backs_same rows mid es links.1 in
       linked_at m
       (on ∙ ap (λ c. set (set c (get_or (backs mid es) q 0) x) x q) onm ∙ ap (λ c. set (set (ons rows es) (get_or c q 0) x) x q) bkm)
       (back ∙ ap (λ c. set (set c q x) x (get_or c q 0)) bkm)
-      (homes_same mid rows' same ∙ hm')
-      (same_column key mid rows' same ∙ km)
-      (n ∙ nm)
+      (homes_same mid rows' same ∙ homes_set rows mid x e l is)
+      (same_column key mid rows' same ∙ column_set key rows mid x e is)
+      (same_length mid rows' same ∙ set_length rows mid x e is)
       a
 
 -- a node that leads to itself

@@ -1,14 +1,15 @@
 -- A store whose links changed, or whose clock went on, and nothing else.
-use Rattle.std.proofs.Common.{◌≡◌, ℕ, ◌≤◌, min, cond, eqb, ◌≢◌, List, [], ◌∷◌, map, length, get_or, replicate, sym, refl, ap, ◌∙◌, ⊎_elim, arith}
-use Rattle.std.proofs.lemmas.List.{length-map, length-replicate, get_or-replicate}
+use Rattle.std.proofs.Common.{◌≡◌, ℕ, ◌<◌, ◌≤◌, min, cond, eqb, ◌≢◌, List, [], ◌∷◌, map, length, get_or, set, replicate, sym, refl, ap, ◌∙◌, ⊎_elim, arith}
+use Rattle.std.proofs.lemmas.List.{length-map, length-set, length-replicate, map-set, get_or-replicate}
 use Rattle.std.proofs.lemmas.Bool.{cases_eq, eq-eqb, ne_eqb}
-use Rattle.timer.specs.Meaning.{Entry}
-use Rattle.timer.specs.Rules.{count}
+use Rattle.timer.specs.Meaning.{Entry, Meaning}
+use Rattle.timer.specs.Rules.{count, with_pending, without}
 use Rattle.timer_rows.specs.declared.row.Row.{Row}
 use Rattle.timer_rows.specs.declared.ledger.Ledger.{Ledger}
 use Rattle.timer_rows.specs.Counts.{ticked_ledger}
 use Rattle.timer_rows.specs.Kept.{Kept}
-use Rattle.timer_rows.specs.Rows.{tickets, deadlines, owners, contents, entry_of, listed, entries, meant, NoneDue}
+use Rattle.timer_rows.specs.Rows.{tickets, deadlines, owners, nexts, prevs, contents, entry_of, listed, entries, meant, NoneDue}
+use Rattle.timer_rows.proofs.Columns.{column_same}
 use Rattle.timer_rows.proofs.Pending.{live_row, entries_none}
 
 module _ {P : Type 0} where
@@ -22,6 +23,13 @@ module _ {P : Type 0} where
 
   pub same_length : (a b : List (Row P)) → contents b ≡ contents a → length b ≡ length a
   same_length a b e = sym (length-map b entry_of) ∙ ap length e ∙ length-map a entry_of
+
+  -- and where one of these changes
+  pub column_set : {Y : Type 0} (f : Entry P → Y) (a b : List (Row P)) (x : ℕ) (e : Entry P) → contents b ≡ set (contents a) x e → map (λ r. f (entry_of r)) b ≡ set (map (λ r. f (entry_of r)) a) x (f e)
+  column_set f a b x e is = column_of f b ∙ ap (map f) is ∙ map-set f (contents a) x e ∙ ap (λ c. set c x (f e)) (sym (column_of f a))
+
+  pub set_length : (a b : List (Row P)) (x : ℕ) (e : Entry P) → contents b ≡ set (contents a) x e → length b ≡ length a
+  set_length a b x e is = sym (length-map b entry_of) ∙ ap length is ∙ length-set (contents a) x e ∙ length-map a entry_of
 
   pub same_kept : (a b : List (Row P)) (l : Ledger) → contents b ≡ contents a → Kept a l → Kept b l
   same_kept a b l e k =
@@ -44,6 +52,23 @@ module _ {P : Type 0} where
 
   pub same_meant : (a b : List (Row P)) (l : Ledger) → contents b ≡ contents a → meant b l ≡ meant a l
   same_meant a b l e = let n = same_length a b e in let s : entries b ≡ entries a = ap listed e in rw (n, s)
+
+  -- the row of an entry
+  pub same_live : (a b : List (Row P)) (x : ℕ) → contents b ≡ contents a → (x < length a) × (get_or (tickets a) x 0 ≢ 0) → (x < length b) × (get_or (tickets b) x 0 ≢ 0)
+  same_live a b x e live =
+      (omega (arith, live.0, same_length a b e), λ z. live.1 (ap (λ ts. get_or ts x 0) (sym (same_column (λ e. e.ticket) a b e)) ∙ z))
+
+  -- an entry left after links had changed
+  pub left_meant : (a b rows' : List (Row P)) (l l' : Ledger) (x : ℕ) → contents b ≡ contents a → meant rows' l' ≡ with_pending (meant b l) (without (get_or (tickets b) x 0) (entries b)) → meant rows' l' ≡ with_pending (meant a l) (without (get_or (tickets a) x 0) (entries a))
+  left_meant a b rows' l l' x e is =
+      is
+      ∙ ap (λ (m : Meaning P). with_pending m (without (get_or (tickets b) x 0) (entries b))) (same_meant a b l e)
+      ∙ ap (λ ts. with_pending (meant a l) (without (get_or ts x 0) (entries b))) (same_column (λ e. e.ticket) a b e)
+      ∙ ap (λ es. with_pending (meant a l) (without (get_or (tickets a) x 0) (listed es))) e
+
+  -- a row that changes and keeps its links
+  pub links_kept : (rows : List (Row P)) (x : ℕ) (r d : Row P) → x < length rows → r.next ≡ (get_or rows x d).next → r.prev ≡ (get_or rows x d).prev → (nexts (set rows x r) ≡ nexts rows) × (prevs (set rows x r) ≡ prevs rows)
+  links_kept rows x r d l nx pv = (column_same (λ r. r.next) rows x r d l nx, column_same (λ r. r.prev) rows x r d l pv)
 
   -- one tick later, where nothing was due
   pub tick_kept : (rows : List (Row P)) (l : Ledger) → Kept rows l → NoneDue l.now rows → l.now ≢ l.last → Kept rows (ticked_ledger l)
@@ -72,7 +97,7 @@ module _ {P : Type 0} where
       (cases_eq l.now l.last)
 
   -- vacant rows and a new ledger
-  pub new_kept : (rows : List (Row P)) (first last : ℕ) → length rows ≤ 4096 → ((i : ℕ) → get_or (tickets rows) i 0 ≡ 0) → Kept rows (record { now = min first last; last = last; given = 0; pending = 0; counts = replicate 64 0 })
+  pub new_kept : (rows : List (Row P)) (first last : ℕ) → length rows ≤ 4096 → ((i : ℕ) → get_or (tickets rows) i 0 ≡ 0) → Kept rows (record { now = min first last; last = last; given = 0; pending = 0; vacated = 0; counts = replicate 64 0 })
   new_kept rows first last n z =
       let s = entries_none rows z in
       record {

@@ -9,19 +9,21 @@ raised l o =
       last = l.last;
       given = l.given + 1;
       pending = l.pending + 1;
+      vacated = l.vacated;
       counts = slice_set l.counts o (slice_index l.counts o + 1);
     }
 
-abbrev pub lowered : Ledger → ℕ → Ledger
-lowered l o =
+abbrev pub lowered : Ledger → ℕ → ℕ → Ledger
+lowered l o x =
     record {
       now = l.now;
       last = l.last;
       given = l.given;
       pending = l.pending - 1;
+      vacated = x;
       counts = slice_set l.counts o (slice_index l.counts o - 1);
     }
 
 abbrev pub ticked_ledger : Ledger → Ledger
 ticked_ledger l =
-    record { now = l.now + 1; last = l.last; given = l.given; pending = l.pending; counts = l.counts }
+    record { now = l.now + 1; last = l.last; given = l.given; pending = l.pending; vacated = l.vacated; counts = l.counts }

@@ -30,13 +30,9 @@ prevs rows = map (λ r. r.prev) rows
 abbrev pub entry_of : {P : Type 0} → Row P → Entry P
 entry_of r = record { ticket = r.ticket; deadline = r.deadline; owner = r.owner; payload = r.payload }
 
--- a row with an entry put into it, and one whose entry was given up: its links stay
-abbrev pub filled : {P : Type 0} → Row P → ℕ → ℕ → ℕ → P → Row P
-filled r t d o p = record { ticket = t; deadline = d; next = r.next; prev = r.prev; owner = o; payload = p }
-
-abbrev pub vacated : {P : Type 0} → Row P → Row P
-vacated r =
-    record { ticket = 0; deadline = r.deadline; next = r.next; prev = r.prev; owner = r.owner; payload = r.payload }
+-- what is left in a row whose entry was given up
+abbrev pub vacated : {P : Type 0} → Entry P → Entry P
+vacated e = record { ticket = 0; deadline = e.deadline; owner = e.owner; payload = e.payload }
 
 -- an entry put among others by its ticket
 abbrev pub placed : {P : Type 0} → Entry P → List (Entry P) → List (Entry P)

@@ -1,18 +1,21 @@
 ghost use Rattle.std.specs.Prelude.{◌≡◌, ℕ, ◌+◌, ◌<◌, ◌≤◌, min, ◌≢◌, [], length, replicate, None, slice_index, slice_index_or, slice_set};
+ghost use Rattle.timer.specs.Meaning.{Entry};
 ghost use Rattle.timer.specs.Rules.{check_rule, entered, with_pending, without};
 ghost use Rattle.timer_rows.specs.Kept.{Kept};
-ghost use Rattle.timer_rows.specs.Rows.{tickets, filled, vacated, entries, meant};
+ghost use Rattle.timer_rows.specs.Rows.{tickets, nexts, prevs, vacated, contents, entries, meant};
 
+use crate::chains::{chain, unchain};
 use crate::ledger::Ledger;
-use crate::row::Row;
+use crate::row::{NO_ROW, Row};
 use timer::fault::TimerFault;
 
-/// Marks every row vacant.
+/// Marks every row vacant, and the home of no entry.
 pub fn clear<P: Copy>(rows: &mut [Row<P>])
     ensures { (i : ℕ) → slice_index (tickets rows.new) i ≡ 0 }
 {
     for row in rows.iter_mut() {
         row.ticket = 0;
+        row.newest = NO_ROW;
     }
 }
 
@@ -58,15 +61,19 @@ pub fn enter<P: Copy>(
     ensures ticket { result ≡ ledger.entry.now.given + 1 }
     ensures kept { Kept rows.new ledger.exit.now }
     ensures meant { meant rows.new ledger.exit.now ≡ entered (meant rows.old ledger.entry.now) deadline owner payload }
-    ensures rows { (d : Row P) → rows.new ≡ slice_set rows.old x (filled (slice_index_or rows.old x d) result deadline owner payload) }
+    ensures contents { contents rows.new ≡ slice_set (contents rows.old) x (record { ticket = result; deadline = deadline; owner = owner; payload = payload }) }
+    ensures links { (nexts rows.new ≡ nexts rows.old) × (prevs rows.new ≡ prevs rows.old) }
 {
-    let row = rows[x];
     let ticket = ledger.raise(owner);
+    chain(rows, x as u16, ticket);
+    let row = rows[x];
     rows[x] = Row {
         ticket,
         deadline,
         next: row.next,
         prev: row.prev,
+        newest: row.newest,
+        older: row.older,
         owner,
         payload,
     };
@@ -79,9 +86,12 @@ pub fn leave<P: Copy>(rows: &mut [Row<P>], ledger: &mut Ledger, x: usize)
     requires live { (x < length rows.old) × (slice_index (tickets rows.old) x ≢ 0) }
     ensures kept { Kept rows.new ledger.exit.now }
     ensures meant { meant rows.new ledger.exit.now ≡ with_pending (meant rows.old ledger.entry.now) (without (slice_index (tickets rows.old) x) (entries rows.old)) }
-    ensures rows { (d : Row P) → rows.new ≡ slice_set rows.old x (vacated (slice_index_or rows.old x d)) }
+    ensures contents { (d : Entry P) → contents rows.new ≡ slice_set (contents rows.old) x (vacated (slice_index_or (contents rows.old) x d)) }
+    ensures links { (nexts rows.new ≡ nexts rows.old) × (prevs rows.new ≡ prevs rows.old) }
 {
+    let ticket = rows[x].ticket;
+    unchain(rows, x as u16, ticket);
     let row = rows[x];
     rows[x] = Row { ticket: 0, ..row };
-    ledger.lower(row.owner);
+    ledger.lower(row.owner, x as u16);
 }

@@ -15,6 +15,8 @@ pub struct Ledger {
     pub given: u32,
     /// How many rows hold an entry.
     pub pending: u16,
+    /// The row that an entry left last.
+    pub vacated: u16,
     /// How many of them each owner has.
     pub counts: [u16; 64],
 }
@@ -22,13 +24,14 @@ pub struct Ledger {
 impl Ledger {
     /// The ledger of a store that has given no ticket; a first tick above the last counts as the last.
     pub fn new(first: u32, last: u32) -> Self
-        ensures { result ≡ record { now = min first last; last = last; given = 0; pending = 0; counts = replicate 64 0 } }
+        ensures { result ≡ record { now = min first last; last = last; given = 0; pending = 0; vacated = 0; counts = replicate 64 0 } }
     {
         Ledger {
             now: first.min(last),
             last,
             given: 0,
             pending: 0,
+            vacated: 0,
             counts: [0; 64],
         }
     }
@@ -80,13 +83,14 @@ impl Ledger {
         self.given
     }
 
-    /// Counts one entry less of the owner.
-    pub fn lower(&mut self, owner: u8)
+    /// Counts one entry less of the owner, which has left this row.
+    pub fn lower(&mut self, owner: u8, row: u16)
         requires known { owner < 64 }
         requires some { (0 < self.now.pending) × (0 < slice_index self.now.counts owner) }
-        ensures { self.exit.now ≡ lowered self.entry.now owner }
+        ensures { self.exit.now ≡ lowered self.entry.now owner row }
     {
         self.pending -= 1;
         self.counts[usize::from(owner)] -= 1;
+        self.vacated = row;
     }
 }

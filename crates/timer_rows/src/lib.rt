@@ -1,5 +1,6 @@
 #![tactic(auto)]
 
+mod chains;
 pub mod ends;
 pub mod entries;
 pub mod ledger;

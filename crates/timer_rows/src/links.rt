@@ -114,4 +114,39 @@ impl<const N: usize> Sentinels<N> {
         self.set_prev(rows, node, x);
         self.set_prev(rows, x, before);
     }
+
+    fn last<P: Copy>(&self, rows: &[Row<P>], slot: usize) -> u16
+        requires { slot < N }
+        ensures { result ≡ slice_index (backs rows.now self.now.ends) (length rows.now + slot) }
+    {
+        self.ends[slot].tail
+    }
+
+    fn set_last<P: Copy>(&mut self, rows: &[Row<P>], slot: usize, to: u16)
+        requires { slot < N }
+        ensures ons { ons rows.now self.new.ends ≡ ons rows.now self.old.ends }
+        ensures backs { backs rows.now self.new.ends ≡ slice_set (backs rows.now self.old.ends) (length rows.now + slot) to }
+    {
+        self.ends[slot].tail = to;
+    }
+
+    /// Puts a row that is in no slot at the end of a slot.
+    ///
+    /// It does what `link` does before the slot's sentinel, without asking of which kind that node is.
+    pub fn push<P: Copy>(&mut self, rows: &mut [Row<P>], x: u16, slot: usize)
+        requires few { length rows.old + N ≤ 65535 }
+        requires slot { slot < N }
+        requires row { x < length rows.old }
+        requires last { slice_index (backs rows.old self.old.ends) (length rows.old + slot) < length rows.old + N }
+        ensures ons { ons rows.new self.new.ends ≡ slice_set (slice_set (ons rows.old self.old.ends) (slice_index (backs rows.old self.old.ends) (length rows.old + slot)) x) x (length rows.old + slot) }
+        ensures backs { backs rows.new self.new.ends ≡ slice_set (slice_set (backs rows.old self.old.ends) (length rows.old + slot) x) x (slice_index (backs rows.old self.old.ends) (length rows.old + slot)) }
+        ensures contents { contents rows.new ≡ contents rows.old }
+    {
+        let sentinel = (rows.len() + slot) as u16;
+        let last = self.last(rows, slot);
+        self.set_next(rows, last, x);
+        self.set_last(rows, slot, x);
+        self.set_next(rows, x, sentinel);
+        self.set_prev(rows, x, last);
+    }
 }

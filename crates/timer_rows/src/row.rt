@@ -1,5 +1,8 @@
 ghost use Rattle.std.specs.Prelude.{◌≡◌, ◌==◌, nat_lt};
 
+/// What stands for a row where there is none.
+pub const NO_ROW: u16 = 65_535;
+
 /// A place for one entry in the memory that is lent to a store; ticket 0 marks a vacant row.
 #[derive(Clone, Copy)]
 pub struct Row<P> {
@@ -11,6 +14,10 @@ pub struct Row<P> {
     pub next: u16,
     /// The node before this one in its slot.
     pub prev: u16,
+    /// The row of the newest entry whose home this row is, or `NO_ROW`.
+    pub newest: u16,
+    /// The row of the next older entry with the same home as the one in this row, or `NO_ROW`.
+    pub older: u16,
     /// The entry's owner.
     pub owner: u8,
     /// What the caller of `start` handed over.
@@ -20,13 +27,15 @@ pub struct Row<P> {
 impl<P: Copy> Row<P> {
     /// A vacant row; the payload only fills its place.
     pub fn vacant(payload: P) -> Row<P>
-        ensures { result ≡ record { ticket = 0; deadline = 0; next = 0; prev = 0; owner = 0; payload = payload } }
+        ensures { result ≡ record { ticket = 0; deadline = 0; next = 0; prev = 0; newest = 65535; older = 65535; owner = 0; payload = payload } }
     {
         Row {
             ticket: 0,
             deadline: 0,
             next: 0,
             prev: 0,
+            newest: NO_ROW,
+            older: NO_ROW,
             owner: 0,
             payload,
         }

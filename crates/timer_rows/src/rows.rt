@@ -1,7 +1,8 @@
-ghost use Rattle.std.specs.Prelude.{◌≡◌, ℕ, ◌<◌, ◌≤◌, ◌≢◌, ◌==◌, min, length, None, MatchOption, position, slice_index};
+ghost use Rattle.std.specs.Prelude.{◌≡◌, ℕ, ◌<◌, ◌≤◌, ◌≢◌, ◌==◌, min, length, None, MatchOption, position, slice_index, true};
 ghost use Rattle.timer.specs.Rules.{find};
 ghost use Rattle.timer_rows.specs.Rows.{used, tickets, entries, Sought};
 
+use crate::chains::{chained, home};
 use crate::ledger::Ledger;
 use crate::row::Row;
 
@@ -21,26 +22,25 @@ fn seek<P: Copy>(rows: &[Row<P>], ticket: u32) -> Option<usize>
     rows.iter().position(|row| row.ticket == ticket)
 }
 
-// The row at which the search for the entry of a ticket starts: the part of all rows that the ticket's multiple of the golden section is past a whole number.
-// Tickets that follow one another begin far apart, so that an entry whose own row is not vacant takes that of a ticket that comes much later.
-fn home(count: usize, ticket: u32) -> usize
-    ensures { result ≤ count }
-{
-    let part = u64::from(ticket.wrapping_mul(0x9E37_79B9));
-    let row = part.wrapping_mul(count as u64) >> 32;
-    (row as usize).min(count)
-}
-
-// A row that has the ticket, or with ticket 0 a vacant row; the search starts at the home of the ticket `near`.
-// A new entry is put into the first vacant row from there on, so that it is nearly always found at once.
-fn seek_from<P: Copy>(rows: &[Row<P>], ticket: u32, near: u32) -> Option<usize>
+// A row that has the ticket, or with ticket 0 a vacant row: the first one from a row on, round the end.
+// It is rarely called, and kept out of its callers.
+#[cold]
+#[inline(never)]
+fn seek_from<P: Copy>(rows: &[Row<P>], ticket: u32, first: usize) -> Option<usize>
     ensures { Sought rows.now ticket result }
 {
-    let home = home(rows.len(), near);
-    if let Some(x) = seek(&rows[home..], ticket) {
-        return Some(home + x);
+    let first = first.min(rows.len());
+    if let Some(x) = seek(&rows[first..], ticket) {
+        return Some(first + x);
     }
-    seek(&rows[..home], ticket)
+    seek(&rows[..first], ticket)
+}
+
+// Whether there is such a row, and it is vacant.
+fn is_vacant<P: Copy>(rows: &[Row<P>], x: usize) -> bool
+    ensures { result ≡ true → (x < length rows.now) × (slice_index (tickets rows.now) x ≡ 0) }
+{
+    rows.get(x).is_some_and(|row| row.ticket == 0)
 }
 
 /// The row of the pending entry with the ticket.
@@ -49,17 +49,27 @@ pub fn row_of<P: Copy>(rows: &[Row<P>], ticket: u32) -> Option<usize>
     ensures { MatchOption result (find ticket (entries rows.now) ≡ None) (λ x. (x < length rows.now) × (slice_index (tickets rows.now) x ≡ ticket) × (ticket ≢ 0)) }
 {
     if ticket == 0 {
-        None
-    } else {
-        seek_from(rows, ticket, ticket)
+        return None;
     }
+    if let Some(x) = chained(rows, ticket) {
+        return Some(x);
+    }
+    seek_from(rows, ticket, home(rows.len(), ticket))
 }
 
-/// A vacant row, near the place of the next ticket.
+/// A vacant row: the home of the next ticket, or the row that was left last, or else the first one from the home on.
 #[tactic(auto, using(crate::proofs::Asked::sought_room))]
 pub fn vacant<P: Copy>(rows: &[Row<P>], ledger: &Ledger) -> usize
     requires { length (entries rows.now) ≢ length rows.now }
     ensures { (result < length rows.now) × (slice_index (tickets rows.now) result ≡ 0) }
 {
-    seek_from(rows, 0, ledger.given.saturating_add(1)).unwrap()
+    let home = home(rows.len(), ledger.given.saturating_add(1));
+    if is_vacant(rows, home) {
+        return home;
+    }
+    let left = usize::from(ledger.vacated);
+    if is_vacant(rows, left) {
+        return left;
+    }
+    seek_from(rows, 0, home).unwrap()
 }

@@ -2,10 +2,11 @@
 use Rattle.std.proofs.Common.{◌≡◌, ℕ, ◌+◌, ◌%◌, ◌<◌, ◌≤◌, cond, eqb, ◌≢◌, List, length, get_or, set, sym, refl, ap, ◌∙◌, arith}
 use Rattle.std.proofs.lemmas.Bool.{ne_eqb, eq-eqb}
 use Rattle.std.proofs.lemmas.Bool.Decides.{nat_tests}
+use Rattle.timer.specs.Meaning.{Entry}
 use Rattle.timer_rows.specs.declared.row.Row.{Row}
 use Rattle.timer_rows.specs.declared.ends.Ends.{Ends}
 use Rattle.timer_rows.specs.Links.{ons, backs, homes_by}
-use Rattle.timer_rows.specs.Rows.{tickets, deadlines, contents, filled, vacated, NoneDue, Foremost}
+use Rattle.timer_rows.specs.Rows.{tickets, deadlines, nexts, prevs, contents, entry_of, vacated, NoneDue, Foremost}
 use Rattle.timer_rows.proofs.Linking.{first}
 use Rattle.timer_rows.proofs.Moves.{some_row, slots_enter, slots_leave}
 use Rattle.timer_rows.proofs.Pending.{live_row}
@@ -36,23 +37,23 @@ module _ {P : Type 0} (rows : List (Row P)) (ledger : Ledger) (es : List Ends) (
   home_live i l b e = let a = row_home (at_tick now) rows i l in grind (arith, nat_tests)
 
   -- an entry with the next ticket goes before the sentinel of its slot
-  pub placed_enter : (x q t deadline owner : ℕ) (payload : P) (d : Row P) (mid rows' : List (Row P)) (es' : List Ends) → x < length rows → get_or (tickets rows) x 0 ≡ 0 → q ≡ length rows + place_of now deadline → t ≡ ledger.given + 1 → mid ≡ set rows x (filled (get_or rows x d) t deadline owner payload) → contents rows' ≡ contents mid → ons rows' es' ≡ set (set (ons mid es) (get_or (backs mid es) q 0) x) x q → backs rows' es' ≡ set (set (backs mid es) q x) x (get_or (backs mid es) q 0) → Slotted now rows' es'
-  placed_enter x q t deadline owner payload d mid rows' es' xl v at e is same on back =
+  pub placed_enter : (x q t deadline owner : ℕ) (payload : P) (mid rows' : List (Row P)) (es' : List Ends) → x < length rows → get_or (tickets rows) x 0 ≡ 0 → q ≡ length rows + place_of now deadline → t ≡ ledger.given + 1 → contents mid ≡ set (contents rows) x (record { ticket = t; deadline = deadline; owner = owner; payload = payload }) → (nexts mid ≡ nexts rows) × (prevs mid ≡ prevs rows) → contents rows' ≡ contents mid → ons rows' es' ≡ set (set (ons mid es) (get_or (backs mid es) q 0) x) x q → backs rows' es' ≡ set (set (backs mid es) q x) x (get_or (backs mid es) q 0) → Slotted now rows' es'
+  placed_enter x q t deadline owner payload mid rows' es' xl v at e is links same on back =
       let p = place_below now deadline in
       let free : get_or homes x 256 ≡ 256 = row_home (at_tick now) rows x xl ∙ ap (λ b. cond b 256 (place_of now (get_or (deadlines rows) x 0))) (eq-eqb (get_or (tickets rows) x 0) 0 v) in
       let live : cond (eqb t 0) 256 (place_of now deadline) ≡ place_of now deadline = ap (λ b. cond b 256 (place_of now deadline)) (ne_eqb t 0 (λ z. omega (arith, z, e))) in
-      slots_enter (home now) all_slots key 256 rows mid rows' es es' x q d (filled (get_or rows x d) t deadline owner payload) h.slots xl (omega (arith, free)) refl refl
+      slots_enter (home now) all_slots key 256 rows mid rows' es es' x q _ h.slots xl (omega (arith, free))
       (ap (λ i. get_or homes i 256) at ∙ sentinel_home (at_tick now) rows (place_of now deadline) p ∙ sym live)
       (omega (arith, live))
       (λ l. omega (arith, k.issued (get_or (backs rows es) q 0)))
       (λ l. absurd (omega arith))
-      is same on back
+      is links same on back
 
   -- the row x leaves its slot
-  pub placed_leave : (x : ℕ) (mid rows' : List (Row P)) (es' : List Ends) → x < length rows → get_or (tickets rows) x 0 ≢ 0 → contents mid ≡ contents rows → ons mid es' ≡ set (ons rows es) (get_or (backs rows es) x 0) (get_or (ons rows es) x 0) → backs mid es' ≡ set (backs rows es) (get_or (ons rows es) x 0) (get_or (backs rows es) x 0) → ((d : Row P) → rows' ≡ set mid x (vacated (get_or mid x d))) → Slotted now rows' es'
-  placed_leave x mid rows' es' l n same on back is =
-      let d = some_row rows x l in
-      slots_leave (home now) all_slots key 256 rows mid rows' es es' x d h.slots l (live_slot x l n) same on back (is d) refl
+  pub placed_leave : (x : ℕ) (mid rows' : List (Row P)) (es' : List Ends) → x < length rows → get_or (tickets rows) x 0 ≢ 0 → contents mid ≡ contents rows → ons mid es' ≡ set (ons rows es) (get_or (backs rows es) x 0) (get_or (ons rows es) x 0) → backs mid es' ≡ set (backs rows es) (get_or (ons rows es) x 0) (get_or (backs rows es) x 0) → ((d : Entry P) → contents rows' ≡ set (contents mid) x (vacated (get_or (contents mid) x d))) → (nexts rows' ≡ nexts mid) × (prevs rows' ≡ prevs mid) → Slotted now rows' es'
+  placed_leave x mid rows' es' l n same on back is links =
+      let d = entry_of (some_row rows x l) in
+      slots_leave (home now) all_slots key 256 rows mid rows' es es' x _ h.slots l (live_slot x l n) same on back (is d) links refl
 
   -- the first row of the slot of the entries that are due
   abbrev slot : ℕ

@@ -23,7 +23,6 @@ impl WheelOrder {
         ensures backs { backs rows.new self.new.slots.ends ≡ slice_set (slice_set (backs rows.old self.old.slots.ends) (length rows.old + slot) x) x (slice_index (backs rows.old self.old.slots.ends) (length rows.old + slot)) }
         ensures contents { contents rows.new ≡ contents rows.old }
     {
-        let sentinel = rows.len() as u16 + slot as u16;
-        self.slots.link(rows, x, sentinel);
+        self.slots.push(rows, x, slot as usize);
     }
 }

@@ -1,9 +1,11 @@
-use Rattle.std.proofs.Common.{set, ap, ◌∙◌}
-use Rattle.std.proofs.lemmas.List.{get_or_default}
+use Rattle.std.proofs.Common.{◌<◌, length, get_or, set, ap, ◌∙◌, arith}
+use Rattle.std.proofs.lemmas.List.{map-set}
 use Rattle.timer.proofs.Checks.{open_says}
+use Rattle.timer.specs.Rules.{check_rule, entered}
 use Rattle.timer_rows.specs.declared.row.Row.{Row}
-use Rattle.timer_rows.specs.Rows.{filled, meant}
+use Rattle.timer_rows.specs.Rows.{entry_of, meant}
 use Rattle.timer_rows.proofs.Keeping.{enter_fits, kept_enter, meant_enter}
+use Rattle.timer_rows.proofs.Same.{same_column, same_kept, same_length, same_meant, links_kept}
 use Rattle.timer_rows.proofs.entries.enter.Goals as goal
 
 pub raise-ticket-requires : goal.raise-ticket-requires
@@ -14,15 +16,22 @@ raise-ticket-requires g c =
 pub returns : goal.returns
 returns g c =
     let rows = c.args.rows.now in
+    let mid = c.chain.new.rows in
+    let same = c.chain.ensures.contents in
     let l = c.args.ledger.now in
     let x = c.args.x in
     let s = c.index-rows-x.result in
     let t = c.raise-ticket.result in
-    let r : Row g.row.P.Denot = record { ticket = t; deadline = c.args.deadline; next = s.next; prev = s.prev; owner = c.args.owner; payload = c.args.payload } in
-    let o = open_says (meant rows l) c.args.deadline c.args.owner c.requires.allowed in
+    let r : Row g.row.P.Denot = record { ticket = t; deadline = c.args.deadline; next = s.next; prev = s.prev; newest = s.newest; older = s.older; owner = c.args.owner; payload = c.args.payload } in
+    let xl : c.args.x < length mid = omega (arith, c.requires.vacant.0, same_length rows mid same) in
+    let v = ap (λ ts. get_or ts x 0) (same_column (λ e. e.ticket) rows mid same) ∙ c.requires.vacant.1 in
+    let m = same_meant rows mid l same in
+    let k = same_kept rows mid l same c.requires.kept in
+    let o = open_says (meant mid l) c.args.deadline c.args.owner (ap (λ m. check_rule m c.args.deadline c.args.owner) m ∙ c.requires.allowed) in
     record {
       ticket = c.raise-ticket.ensures.ticket;
-      kept = rw c.raise-ticket.ensures.after (kept_enter rows l c.requires.kept x r c.requires.vacant.0 c.requires.vacant.1 o c.raise-ticket.ensures.ticket);
-      meant = rw c.raise-ticket.ensures.after (meant_enter rows l c.requires.kept x r c.requires.vacant.0 c.requires.vacant.1 o c.raise-ticket.ensures.ticket);
-      rows = λ d. ap (λ (q : Row g.row.P.Denot). set rows x (filled q t c.args.deadline c.args.owner c.args.payload)) (c.index-rows-x.is ∙ get_or_default rows x s d c.requires.vacant.0);
+      kept = rw c.raise-ticket.ensures.after (kept_enter mid l k x r xl v o c.raise-ticket.ensures.ticket);
+      meant = rw c.raise-ticket.ensures.after (meant_enter mid l k x r xl v o c.raise-ticket.ensures.ticket) ∙ ap (λ m. entered m c.args.deadline c.args.owner c.args.payload) m;
+      contents = map-set entry_of mid x r ∙ ap (λ c. set c x (entry_of r)) same;
+      links = let k = links_kept mid x r s xl (ap (λ (q : Row g.row.P.Denot). q.next) c.index-rows-x.is) (ap (λ (q : Row g.row.P.Denot). q.prev) c.index-rows-x.is) in (k.0 ∙ c.chain.ensures.links.0, k.1 ∙ c.chain.ensures.links.1);
     }

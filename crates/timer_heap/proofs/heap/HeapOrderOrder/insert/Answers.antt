@@ -1,7 +1,6 @@
 use Rattle.std.proofs.Common.{◌+◌, ◌∙◌, arith}
 use Rattle.timer.proofs.Checks.{open_says}
 use Rattle.timer_rows.specs.Rows.{meant}
-use Rattle.timer_rows.proofs.Moves.{some_row}
 use Rattle.timer_rows.proofs.Same.{same_kept, same_meant}
 use Rattle.timer_heap.proofs.Changes.{end_inside, entered_unsettled, entered_ordered, entered_count}
 use Rattle.timer_heap.proofs.heap.HeapOrderOrder.insert.Goals as goal
@@ -16,9 +15,8 @@ put-requires g c =
     let l = c.args.ledger.now in
     let x = c.vacant-x.result in
     let xl = c.vacant-x.ensures.0 in
-    let d = some_row rows x xl in
     let o = open_says (meant rows l) c.args.deadline c.args.owner c.requires.allowed in
-    let e = end_inside rows l c.requires.kept c.requires.held x c.args.deadline c.args.owner c.args.payload xl c.vacant-x.ensures.1 o d c.enter-ticket.result c.enter-ticket.new.rows c.enter-ticket.new.rows c.enter-ticket.ensures.ticket (c.enter-ticket.ensures.rows d) in
+    let e = end_inside rows l c.requires.kept c.requires.held x c.args.deadline c.args.owner c.args.payload xl c.vacant-x.ensures.1 o c.enter-ticket.result c.enter-ticket.new.rows c.enter-ticket.new.rows c.enter-ticket.ensures.ticket c.enter-ticket.ensures.contents c.enter-ticket.ensures.links in
     let n = c.enter-ticket.auto.rows in
     (omega arith, omega arith, omega (arith, c.requires.kept.few))
 
@@ -28,9 +26,8 @@ sift_up-requires g c =
     let l = c.args.ledger.now in
     let x = c.vacant-x.result in
     let xl = c.vacant-x.ensures.0 in
-    let d = some_row rows x xl in
     let o = open_says (meant rows l) c.args.deadline c.args.owner c.requires.allowed in
-    (c.args.ledger.now.pending + 1, rw c.from-end.ensures (entered_unsettled rows l c.requires.kept c.requires.held x c.args.deadline c.args.owner c.args.payload xl c.vacant-x.ensures.1 o d c.enter-ticket.result c.enter-ticket.new.rows c.put.new.rows c.enter-ticket.ensures.ticket (c.enter-ticket.ensures.rows d) c.put.ensures.contents (rw c.from-end.ensures at c.put.ensures.cells) (rw c.from-end.ensures at c.put.ensures.places)))
+    (c.args.ledger.now.pending + 1, rw c.from-end.ensures (entered_unsettled rows l c.requires.kept c.requires.held x c.args.deadline c.args.owner c.args.payload xl c.vacant-x.ensures.1 o c.enter-ticket.result c.enter-ticket.new.rows c.put.new.rows c.enter-ticket.ensures.ticket c.enter-ticket.ensures.contents c.enter-ticket.ensures.links c.put.ensures.contents (rw c.from-end.ensures at c.put.ensures.cells) (rw c.from-end.ensures at c.put.ensures.places)))
 
 pub returns : goal.returns
 returns g c =
@@ -38,13 +35,12 @@ returns g c =
     let l = c.args.ledger.now in
     let x = c.vacant-x.result in
     let xl = c.vacant-x.ensures.0 in
-    let d = some_row rows x xl in
     let o = open_says (meant rows l) c.args.deadline c.args.owner c.requires.allowed in
     let mid = c.enter-ticket.new.rows in
     let end = c.sift_up.new.rows in
     let l' = c.enter-ticket.new.ledger in
     let same = c.sift_up.ensures.contents ∙ c.put.ensures.contents in
-    let u = entered_unsettled rows l c.requires.kept c.requires.held x c.args.deadline c.args.owner c.args.payload xl c.vacant-x.ensures.1 o d c.enter-ticket.result mid c.put.new.rows c.enter-ticket.ensures.ticket (c.enter-ticket.ensures.rows d) c.put.ensures.contents (rw c.from-end.ensures at c.put.ensures.cells) (rw c.from-end.ensures at c.put.ensures.places) in
+    let u = entered_unsettled rows l c.requires.kept c.requires.held x c.args.deadline c.args.owner c.args.payload xl c.vacant-x.ensures.1 o c.enter-ticket.result mid c.put.new.rows c.enter-ticket.ensures.ticket c.enter-ticket.ensures.contents c.enter-ticket.ensures.links c.put.ensures.contents (rw c.from-end.ensures at c.put.ensures.cells) (rw c.from-end.ensures at c.put.ensures.places) in
     let v = c.sift_up.ensures.sinking (l.pending + 1) (rw c.from-end.ensures u) in
     record {
       ticket = c.enter-ticket.ensures.ticket;

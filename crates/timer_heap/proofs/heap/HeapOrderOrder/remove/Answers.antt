@@ -1,24 +1,20 @@
-use Rattle.std.proofs.Common.{◌-◌, get_or, sym, ap, ◌∙◌, arith}
-use Rattle.timer_rows.proofs.Same.{same_kept, same_column, same_length, same_meant}
-use Rattle.timer_heap.proofs.Changes.{left_unsettled, left_ordered, left_meant, left_all}
+use Rattle.std.proofs.Common.{◌-◌, ap, ◌∙◌}
+use Rattle.timer_rows.proofs.Same.{same_kept, same_live, same_meant, left_meant}
+use Rattle.timer_heap.proofs.Changes.{left_unsettled, left_ordered, left_all}
 use Rattle.timer_heap.proofs.heap.HeapOrderOrder.remove.Goals as goal
 
 pub leave-requires : goal.leave-requires
 leave-requires g c =
-    let rows = c.args.rows.now in
-    let mid = c.swap.new.rows in
     let same = c.swap.ensures.contents in
-    let n = same_length rows mid same in
-    let t = same_column (λ e. e.ticket) rows mid same in
     record {
-      kept = same_kept rows mid c.args.ledger.now same c.requires.kept;
-      live = (omega (arith, c.requires.live.0), λ e. c.requires.live.1 (ap (λ ts. get_or ts c.args.x 0) (sym t) ∙ e));
+      kept = same_kept c.args.rows.now c.swap.new.rows c.args.ledger.now same c.requires.kept;
+      live = same_live c.args.rows.now c.swap.new.rows c.args.x same c.requires.live;
     }
 
 pub settle-requires : goal.settle-requires
 settle-requires g c =
     let s = c.swap.ensures in
-    left_unsettled c.args.rows.now c.args.ledger.now c.requires.kept c.requires.held c.args.x c.requires.live.1 _ _ c.position_of-gap.ensures (ap (λ n. n - 1) c.from-last.ensures) c.swap.new.rows c.leave.new.rows s.cells s.places s.contents c.leave.ensures.rows c.if-gap-last.true
+    left_unsettled c.args.rows.now c.args.ledger.now c.requires.kept c.requires.held c.args.x c.requires.live.1 _ _ c.position_of-gap.ensures (ap (λ n. n - 1) c.from-last.ensures) c.swap.new.rows c.leave.new.rows s.cells s.places s.contents c.leave.ensures.contents c.leave.ensures.links c.if-gap-last.true
 
 pub returns-then-gap-last : goal.returns-then-gap-last
 returns-then-gap-last g c =
@@ -28,7 +24,7 @@ returns-then-gap-last g c =
     let left = c.leave.new.rows in
     let l' = c.leave.new.ledger in
     let same = c.settle.ensures.contents in
-    let m = same_meant left end l' same ∙ left_meant rows l c.requires.kept c.requires.held c.args.x c.requires.live.1 c.swap.new.rows left l' c.swap.ensures.contents c.leave.ensures.meant in
+    let m = same_meant left end l' same ∙ left_meant rows c.swap.new.rows left l l' c.args.x c.swap.ensures.contents c.leave.ensures.meant in
     record {
       kept = same_kept left end l' same c.leave.ensures.kept;
       held = left_all rows l c.requires.kept c.requires.held c.args.x c.requires.live.1 end l' (same_kept left end l' same c.leave.ensures.kept) m _ (ap (λ n. n - 1) c.from-last.ensures) c.settle.ensures.ordered;
@@ -42,6 +38,6 @@ returns-else-gap-last g c =
     let left = c.leave.new.rows in
     let l' = c.leave.new.ledger in
     let s = c.swap.ensures in
-    let m = left_meant rows l c.requires.kept c.requires.held c.args.x c.requires.live.1 c.swap.new.rows left l' s.contents c.leave.ensures.meant in
-    let o = left_ordered rows l c.requires.kept c.requires.held c.args.x c.requires.live.1 _ _ c.position_of-gap.ensures (ap (λ n. n - 1) c.from-last.ensures) c.swap.new.rows left s.cells s.places s.contents c.leave.ensures.rows c.if-gap-last.false in
+    let m = left_meant rows c.swap.new.rows left l l' c.args.x s.contents c.leave.ensures.meant in
+    let o = left_ordered rows l c.requires.kept c.requires.held c.args.x c.requires.live.1 _ _ c.position_of-gap.ensures (ap (λ n. n - 1) c.from-last.ensures) c.swap.new.rows left s.cells s.places s.contents c.leave.ensures.contents c.leave.ensures.links c.if-gap-last.false in
     record { kept = c.leave.ensures.kept; held = left_all rows l c.requires.kept c.requires.held c.args.x c.requires.live.1 left l' c.leave.ensures.kept m _ (ap (λ n. n - 1) c.from-last.ensures) o; meant = m }

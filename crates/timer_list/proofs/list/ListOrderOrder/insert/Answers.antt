@@ -1,7 +1,7 @@
-use Rattle.std.proofs.Common.{get_or, refl, ap, ◌∙◌, arith}
+use Rattle.std.proofs.Common.{get_or, ap, ◌∙◌, arith}
 use Rattle.timer.proofs.Checks.{open_says}
 use Rattle.timer_rows.specs.Rows.{meant}
-use Rattle.timer_rows.proofs.Moves.{some_row, backs_kept}
+use Rattle.timer_rows.proofs.Moves.{backs_same}
 use Rattle.timer_rows.proofs.Same.{same_kept, same_meant}
 use Rattle.timer_list.proofs.Lists.{node_links, sorted_enter}
 use Rattle.timer_list.proofs.list.ListOrderOrder.insert.Goals as goal
@@ -15,9 +15,7 @@ link-requires g c =
     let rows = c.args.rows.now in
     let mid = c.enter-ticket.new.rows in
     let x = c.vacant-x.result in
-    let d = some_row rows x c.vacant-x.ensures.0 in
-    let is = c.enter-ticket.ensures.rows d in
-    let b = backs_kept rows mid c.args.self.now.slots.ends x _ d c.vacant-x.ensures.0 is refl in
+    let b = backs_same rows mid c.args.self.now.slots.ends c.enter-ticket.ensures.links.1 in
     let l = c.enter-ticket.auto.rows in
     let n = node_links rows c.args.ledger.now c.args.self.now.slots.ends c.requires.kept c.requires.held c.spot-node.result c.spot-node.ensures.node in
     let before = ap (λ col. get_or col c.spot-node.result 0) b in
@@ -29,11 +27,10 @@ returns g c =
     let l = c.args.ledger.now in
     let mid = c.enter-ticket.new.rows in
     let x = c.vacant-x.result in
-    let d = some_row rows x c.vacant-x.ensures.0 in
     let o = open_says (meant rows l) c.args.deadline c.args.owner c.requires.allowed in
     record {
       ticket = c.enter-ticket.ensures.ticket;
       kept = same_kept mid c.link.new.rows c.enter-ticket.new.ledger c.link.ensures.contents c.enter-ticket.ensures.kept;
-      held = sorted_enter rows c.args.ledger.now c.args.self.now.slots.ends c.requires.kept c.requires.held x c.spot-node.result c.args.deadline c.args.owner c.args.payload c.vacant-x.ensures.0 c.vacant-x.ensures.1 o c.spot-node.ensures d c.enter-ticket.result mid c.link.new.rows c.link.new.self.ends c.enter-ticket.ensures.ticket (c.enter-ticket.ensures.rows d) c.link.ensures.contents c.link.ensures.ons c.link.ensures.backs;
+      held = sorted_enter rows c.args.ledger.now c.args.self.now.slots.ends c.requires.kept c.requires.held x c.spot-node.result c.args.deadline c.args.owner c.args.payload c.vacant-x.ensures.0 c.vacant-x.ensures.1 o c.spot-node.ensures c.enter-ticket.result mid c.link.new.rows c.link.new.self.ends c.enter-ticket.ensures.ticket c.enter-ticket.ensures.contents c.enter-ticket.ensures.links c.link.ensures.contents c.link.ensures.ons c.link.ensures.backs;
       meant = same_meant mid c.link.new.rows c.enter-ticket.new.ledger c.link.ensures.contents ∙ c.enter-ticket.ensures.meant;
     }

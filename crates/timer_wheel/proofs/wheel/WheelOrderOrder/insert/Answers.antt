@@ -1,8 +1,8 @@
-use Rattle.std.proofs.Common.{◌≡◌, ◌+◌, length, get_or, sym, refl, ap, ◌∙◌, subst, arith}
+use Rattle.std.proofs.Common.{◌≡◌, ◌+◌, length, get_or, sym, ap, ◌∙◌, subst, arith}
 use Rattle.timer.proofs.Checks.{open_says}
 use Rattle.timer_rows.specs.Links.{homes_by}
 use Rattle.timer_rows.specs.Rows.{meant}
-use Rattle.timer_rows.proofs.Moves.{some_row, backs_kept}
+use Rattle.timer_rows.proofs.Moves.{backs_same}
 use Rattle.timer_rows.proofs.Same.{same_kept, same_meant}
 use Rattle.timer_wheel.specs.Place.{place_of}
 use Rattle.timer_wheel.specs.Placed.{all_slots, home, Slotted}
@@ -24,9 +24,7 @@ append-requires g c =
     let es = c.args.self.now.slots.ends in
     let tick = c.args.ledger.now.now in
     let p : c.place-slot.result ≡ place_of c.args.ledger.now.now c.args.deadline = c.place-slot.ensures.value ∙ place_is tick c.args.deadline in
-    let d = some_row rows x c.vacant-x.ensures.0 in
-    let is = c.enter-ticket.ensures.rows d in
-    let b = backs_kept rows mid es x _ d c.vacant-x.ensures.0 is refl in
+    let b = backs_same rows mid es c.enter-ticket.ensures.links.1 in
     let l = c.enter-ticket.auto.rows in
     let f = place_below tick c.args.deadline in
     let q : length c.enter-ticket.new.rows + c.place-slot.result ≡ length c.args.rows.now + place_of c.args.ledger.now.now c.args.deadline = omega (arith, p, l) in
@@ -45,9 +43,8 @@ returns g c =
     let x = c.vacant-x.result in
     let p : c.place-slot.result ≡ place_of c.args.ledger.now.now c.args.deadline = c.place-slot.ensures.value ∙ place_is c.args.ledger.now.now c.args.deadline in
     let q : length c.enter-ticket.new.rows + c.place-slot.result ≡ length c.args.rows.now + place_of c.args.ledger.now.now c.args.deadline = omega (arith, p, c.enter-ticket.auto.rows) in
-    let d = some_row rows x c.vacant-x.ensures.0 in
     let m = c.enter-ticket.ensures.meant in
-    let s = placed_enter rows c.args.ledger.now c.args.self.now.slots.ends c.requires.kept c.requires.held x _ c.enter-ticket.result c.args.deadline c.args.owner c.args.payload d mid c.append.new.rows c.append.new.self.slots.ends c.vacant-x.ensures.0 c.vacant-x.ensures.1 q c.enter-ticket.ensures.ticket (c.enter-ticket.ensures.rows d) c.append.ensures.contents c.append.ensures.ons c.append.ensures.backs in
+    let s = placed_enter rows c.args.ledger.now c.args.self.now.slots.ends c.requires.kept c.requires.held x _ c.enter-ticket.result c.args.deadline c.args.owner c.args.payload mid c.append.new.rows c.append.new.self.slots.ends c.vacant-x.ensures.0 c.vacant-x.ensures.1 q c.enter-ticket.ensures.ticket c.enter-ticket.ensures.contents c.enter-ticket.ensures.links c.append.ensures.contents c.append.ensures.ons c.append.ensures.backs in
     record {
       ticket = c.enter-ticket.ensures.ticket;
       kept = same_kept mid c.append.new.rows c.enter-ticket.new.ledger c.append.ensures.contents c.enter-ticket.ensures.kept;

@@ -1,8 +1,5 @@
-use Rattle.std.proofs.Common.{get_or, sym, ap, ◌∙◌, subst, arith}
-use Rattle.timer.specs.Meaning.{Meaning}
-use Rattle.timer.specs.Rules.{with_pending, without}
-use Rattle.timer_rows.specs.Rows.{tickets, entries, meant, listed}
-use Rattle.timer_rows.proofs.Same.{same_kept, same_column, same_length, same_meant}
+use Rattle.std.proofs.Common.{sym, ap, ◌∙◌, subst, arith}
+use Rattle.timer_rows.proofs.Same.{same_kept, same_live, left_meant}
 use Rattle.timer_wheel.specs.Placed.{Slotted}
 use Rattle.timer_wheel.proofs.Homes.{node_links}
 use Rattle.timer_wheel.proofs.Entering.{live_slot, placed_leave}
@@ -16,11 +13,9 @@ unlink-requires g c =
 pub leave-requires : goal.leave-requires
 leave-requires g c =
     let same = c.unlink.ensures.contents in
-    let n = same_length c.args.rows.now c.unlink.new.rows same in
-    let t = same_column (λ e. e.ticket) c.args.rows.now c.unlink.new.rows same in
     record {
       kept = same_kept c.args.rows.now c.unlink.new.rows c.args.ledger.now same c.requires.kept;
-      live = (omega (arith, c.requires.live.0), λ e. c.requires.live.1 (ap (λ ts. get_or ts c.args.x 0) (sym t) ∙ e));
+      live = same_live c.args.rows.now c.unlink.new.rows c.args.x same c.requires.live;
     }
 
 pub returns : goal.returns
@@ -28,16 +23,11 @@ returns g c =
     let rows = c.args.rows.now in
     let mid = c.unlink.new.rows in
     let same = c.unlink.ensures.contents in
-    let t = same_column (λ e. e.ticket) rows mid same in
     record {
       kept = c.leave.ensures.kept;
       held = record {
-        slots = subst (λ t. Slotted t c.leave.new.rows c.unlink.new.self.ends) (sym (ap (λ m. m.now) c.leave.ensures.meant)) (placed_leave rows c.args.ledger.now c.args.self.now.slots.ends c.requires.kept c.requires.held c.args.x mid c.leave.new.rows c.unlink.new.self.ends c.requires.live.0 c.requires.live.1 same c.unlink.ensures.ons c.unlink.ensures.backs c.leave.ensures.rows);
+        slots = subst (λ t. Slotted t c.leave.new.rows c.unlink.new.self.ends) (sym (ap (λ m. m.now) c.leave.ensures.meant)) (placed_leave rows c.args.ledger.now c.args.self.now.slots.ends c.requires.kept c.requires.held c.args.x mid c.leave.new.rows c.unlink.new.self.ends c.requires.live.0 c.requires.live.1 same c.unlink.ensures.ons c.unlink.ensures.backs c.leave.ensures.contents c.leave.ensures.links);
         last = ap (λ m. m.last) c.leave.ensures.meant ∙ c.requires.held.last;
       };
-      meant =
-          c.leave.ensures.meant
-          ∙ ap (λ (m : Meaning g.row.P.Denot). with_pending m (without (get_or (tickets mid) c.args.x 0) (entries mid))) (same_meant rows mid c.args.ledger.now same)
-          ∙ ap (λ ts. with_pending (meant rows c.args.ledger.now) (without (get_or ts c.args.x 0) (entries mid))) t
-          ∙ ap (λ es. with_pending (meant rows c.args.ledger.now) (without (get_or (tickets rows) c.args.x 0) (listed es))) same;
+      meant = left_meant rows mid c.leave.new.rows c.args.ledger.now c.leave.new.ledger c.args.x same c.leave.ensures.meant;
     }

@@ -1,0 +1,101 @@
+ghost use Rattle.std.specs.Prelude.{◌≡◌, ◌<◌, ⊤, length, MatchOption, slice_index};
+ghost use Rattle.timer_rows.specs.Rows.{tickets, nexts, prevs, contents};
+
+use crate::row::{NO_ROW, Row};
+
+// Every ticket has a home among the rows, and the entries with one home are chained, the newest first, wherever their rows are.
+// A chain only says where to look first: what is found there is believed once its ticket has been read. So no fact is kept about
+// chains, and where one leads nowhere, all rows are searched.
+
+// How many rows of a chain are looked at: in a full store of 4,096 rows the longest chain has some eight.
+const MOST: usize = 64;
+
+/// The home of a ticket: the part of all rows that the ticket's multiple of the golden section is past a whole number.
+///
+/// The homes of tickets that follow one another lie far apart, so that few tickets share one.
+pub fn home(count: usize, ticket: u32) -> usize {
+    let part = u64::from(ticket.wrapping_mul(0x9E37_79B9));
+    (part.wrapping_mul(count as u64) >> 32) as usize
+}
+
+/// The row that the chain of the ticket's home has for the ticket.
+pub fn chained<P: Copy>(rows: &[Row<P>], ticket: u32) -> Option<usize>
+    ensures { MatchOption result ⊤ (λ x. (x < length rows.now) × (slice_index (tickets rows.now) x ≡ ticket)) }
+{
+    let mut x = rows.get(home(rows.len(), ticket))?.newest;
+    for _ in 0..MOST {
+        let row = rows.get(usize::from(x))?;
+        if row.ticket == ticket {
+            return Some(usize::from(x));
+        }
+        x = row.older;
+    }
+    None
+}
+
+// The newest entry whose home a row is.
+fn newest<P: Copy>(rows: &[Row<P>], x: usize) -> u16 {
+    rows.get(x).map_or(NO_ROW, |row| row.newest)
+}
+
+// The next older entry with the home of the one in a row.
+fn older<P: Copy>(rows: &[Row<P>], x: usize) -> u16 {
+    rows.get(x).map_or(NO_ROW, |row| row.older)
+}
+
+fn set_newest<P: Copy>(rows: &mut [Row<P>], x: usize, to: u16)
+    ensures contents { contents rows.new ≡ contents rows.old }
+    ensures links { (nexts rows.new ≡ nexts rows.old) × (prevs rows.new ≡ prevs rows.old) }
+{
+    if x < rows.len() {
+        rows[x].newest = to;
+    }
+}
+
+fn set_older<P: Copy>(rows: &mut [Row<P>], x: usize, to: u16)
+    ensures contents { contents rows.new ≡ contents rows.old }
+    ensures links { (nexts rows.new ≡ nexts rows.old) × (prevs rows.new ≡ prevs rows.old) }
+{
+    if x < rows.len() {
+        rows[x].older = to;
+    }
+}
+
+/// Puts a row at the front of the chain of a ticket's home.
+pub fn chain<P: Copy>(rows: &mut [Row<P>], x: u16, ticket: u32)
+    ensures contents { contents rows.new ≡ contents rows.old }
+    ensures links { (nexts rows.new ≡ nexts rows.old) × (prevs rows.new ≡ prevs rows.old) }
+{
+    let home = home(rows.len(), ticket);
+    let next = newest(rows, home);
+    set_older(rows, usize::from(x), next);
+    set_newest(rows, home, x);
+}
+
+// The row before another one in the chain that begins with a third.
+fn before<P: Copy>(rows: &[Row<P>], first: u16, x: u16) -> Option<u16> {
+    let mut node = first;
+    for _ in 0..MOST {
+        let next = rows.get(usize::from(node))?.older;
+        if next == x {
+            return Some(node);
+        }
+        node = next;
+    }
+    None
+}
+
+/// Takes a row out of the chain of its ticket's home.
+pub fn unchain<P: Copy>(rows: &mut [Row<P>], x: u16, ticket: u32)
+    ensures contents { contents rows.new ≡ contents rows.old }
+    ensures links { (nexts rows.new ≡ nexts rows.old) × (prevs rows.new ≡ prevs rows.old) }
+{
+    let home = home(rows.len(), ticket);
+    let first = newest(rows, home);
+    let next = older(rows, usize::from(x));
+    if first == x {
+        set_newest(rows, home, next);
+    } else if let Some(node) = before(rows, first, x) {
+        set_older(rows, usize::from(node), next);
+    }
+}
