@@ -68,7 +68,8 @@ fn compile(name: &str, includes: &[&Path]) -> Result<(), String> {
     let object = output().join(format!("{name}.o"));
     let archive = output().join(format!("lib{name}_timers.a"));
     let mut gcc = Command::new("gcc");
-    gcc.args(["-O3", "-w", "-c", "-o"]).arg(&object);
+    gcc.args(["-O3", "-falign-functions=64", "-w", "-c", "-o"])
+        .arg(&object);
     for include in includes {
         gcc.arg("-I").arg(include);
     }
@@ -112,13 +113,18 @@ fn tokio_util() -> Result<(), String> {
 }
 
 // Its memory comes from the kit's C library, which lies in the folder c beside the guide that `rt doc` names.
+// Each of its functions has a section of its own; they are aligned here, as those of the other sides are by their compilers.
 fn proved() -> Result<(), String> {
-    entry(PROVED, "libbench_exports.a")?;
+    let built = entry(PROVED, "libbench_exports.a")?;
+    let aligned = output().join("libbench_exports.a");
+    run(Command::new("objcopy")
+        .arg("--set-section-alignment=.text.*=64")
+        .args([&built, &aligned]))?;
     let guide = run(Command::new("rt").arg("doc"))?;
     let kit = Path::new(guide.trim())
         .parent()
         .ok_or("rt doc names no guide")?;
-    println!("cargo:rustc-link-search=native={PROVED}");
+    println!("cargo:rustc-link-search=native={}", output().display());
     println!("cargo:rustc-link-lib=static=bench_exports");
     println!("cargo:rustc-link-search=native={}/c", kit.display());
     println!("cargo:rustc-link-lib=static=libc_c");

@@ -7,7 +7,6 @@ use timer_order::row_store::RowStore;
 use timer_rows::entries::{enter, leave};
 use timer_rows::ledger::Ledger;
 use timer_rows::row::Row;
-use timer_rows::rows::vacant;
 
 /// A timer store that keeps its entries in a binary heap by deadline, then ticket, over rows that are lent to it.
 pub type TimerHeap<'a, P> = RowStore<'a, P, HeapOrder>;
@@ -37,9 +36,8 @@ impl<P: Copy> Order<P> for HeapOrder {
         owner: u8,
         payload: P,
     ) -> u32 {
-        let x = vacant(rows, ledger);
         let end = usize::from(ledger.pending);
-        let ticket = enter(rows, ledger, x, deadline, owner, payload);
+        let (x, ticket) = enter(rows, ledger, deadline, owner, payload);
         put(rows, end, x);
         sift_up(rows, end);
         ticket

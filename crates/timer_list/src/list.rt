@@ -8,7 +8,6 @@ use timer_rows::entries::{enter, leave};
 use timer_rows::ledger::Ledger;
 use timer_rows::links::Sentinels;
 use timer_rows::row::Row;
-use timer_rows::rows::vacant;
 
 /// A timer store that keeps its entries in a doubly linked list by deadline, then ticket, over rows that are lent to it.
 pub type SortedList<'a, P> = RowStore<'a, P, ListOrder>;
@@ -62,8 +61,7 @@ impl<P: Copy> Order<P> for ListOrder {
         payload: P,
     ) -> u32 {
         let node = self.spot(rows, deadline);
-        let x = vacant(rows, ledger);
-        let ticket = enter(rows, ledger, x, deadline, owner, payload);
+        let (x, ticket) = enter(rows, ledger, deadline, owner, payload);
         self.slots.link(rows, x as u16, node);
         ticket
     }

@@ -1,7 +1,7 @@
-ghost use Rattle.std.specs.Prelude.{◌≡◌, ◌<◌, ⊤, length, MatchOption, slice_index};
+ghost use Rattle.std.specs.Prelude.{◌≡◌, ◌<◌, ◌≤◌, ⊤, length, MatchOption, slice_index};
 ghost use Rattle.timer_rows.specs.Rows.{tickets, nexts, prevs, contents};
 
-use crate::row::{NO_ROW, Row};
+use crate::row::Row;
 
 // Every ticket has a home among the rows, and the entries with one home are chained, the newest first, wherever their rows are.
 // A chain only says where to look first: what is found there is believed once its ticket has been read. So no fact is kept about
@@ -13,7 +13,9 @@ const MOST: usize = 64;
 /// The home of a ticket: the part of all rows that the ticket's multiple of the golden section is past a whole number.
 ///
 /// The homes of tickets that follow one another lie far apart, so that few tickets share one.
-pub fn home(count: usize, ticket: u32) -> usize {
+pub fn home(count: usize, ticket: u32) -> usize
+    ensures { 0 < count → count ≤ 4096 → result < count }
+{
     let part = u64::from(ticket.wrapping_mul(0x9E37_79B9));
     (part.wrapping_mul(count as u64) >> 32) as usize
 }
@@ -33,69 +35,60 @@ pub fn chained<P: Copy>(rows: &[Row<P>], ticket: u32) -> Option<usize>
     None
 }
 
-// The newest entry whose home a row is.
-fn newest<P: Copy>(rows: &[Row<P>], x: usize) -> u16 {
-    rows.get(x).map_or(NO_ROW, |row| row.newest)
-}
-
-// The next older entry with the home of the one in a row.
-fn older<P: Copy>(rows: &[Row<P>], x: usize) -> u16 {
-    rows.get(x).map_or(NO_ROW, |row| row.older)
-}
-
 fn set_newest<P: Copy>(rows: &mut [Row<P>], x: usize, to: u16)
+    requires { x < length rows.old }
     ensures contents { contents rows.new ≡ contents rows.old }
     ensures links { (nexts rows.new ≡ nexts rows.old) × (prevs rows.new ≡ prevs rows.old) }
 {
-    if x < rows.len() {
-        rows[x].newest = to;
-    }
+    rows[x].newest = to;
 }
 
 fn set_older<P: Copy>(rows: &mut [Row<P>], x: usize, to: u16)
+    requires { x < length rows.old }
     ensures contents { contents rows.new ≡ contents rows.old }
     ensures links { (nexts rows.new ≡ nexts rows.old) × (prevs rows.new ≡ prevs rows.old) }
 {
-    if x < rows.len() {
-        rows[x].older = to;
-    }
+    rows[x].older = to;
 }
 
-/// Puts a row at the front of the chain of a ticket's home.
-pub fn chain<P: Copy>(rows: &mut [Row<P>], x: u16, ticket: u32)
+/// Puts a row at the front of the chain of a home.
+pub fn chain<P: Copy>(rows: &mut [Row<P>], x: usize, home: usize)
+    requires { (x < length rows.old) × (home < length rows.old) × (length rows.old ≤ 4096) }
     ensures contents { contents rows.new ≡ contents rows.old }
     ensures links { (nexts rows.new ≡ nexts rows.old) × (prevs rows.new ≡ prevs rows.old) }
 {
-    let home = home(rows.len(), ticket);
-    let next = newest(rows, home);
-    set_older(rows, usize::from(x), next);
-    set_newest(rows, home, x);
+    let next = rows[home].newest;
+    set_older(rows, x, next);
+    set_newest(rows, home, x as u16);
 }
 
 // The row before another one in the chain that begins with a third.
-fn before<P: Copy>(rows: &[Row<P>], first: u16, x: u16) -> Option<u16> {
-    let mut node = first;
+fn before<P: Copy>(rows: &[Row<P>], first: u16, x: u16) -> Option<usize>
+    ensures { MatchOption result ⊤ (λ node. node < length rows.now) }
+{
+    let mut node = usize::from(first);
     for _ in 0..MOST {
-        let next = rows.get(usize::from(node))?.older;
+        let next = rows.get(node)?.older;
         if next == x {
             return Some(node);
         }
-        node = next;
+        node = usize::from(next);
     }
     None
 }
 
 /// Takes a row out of the chain of its ticket's home.
-pub fn unchain<P: Copy>(rows: &mut [Row<P>], x: u16, ticket: u32)
+pub fn unchain<P: Copy>(rows: &mut [Row<P>], x: usize)
+    requires { (x < length rows.old) × (length rows.old ≤ 4096) }
     ensures contents { contents rows.new ≡ contents rows.old }
     ensures links { (nexts rows.new ≡ nexts rows.old) × (prevs rows.new ≡ prevs rows.old) }
 {
-    let home = home(rows.len(), ticket);
-    let first = newest(rows, home);
-    let next = older(rows, usize::from(x));
-    if first == x {
+    let home = home(rows.len(), rows[x].ticket);
+    let first = rows[home].newest;
+    let next = rows[x].older;
+    if usize::from(first) == x {
         set_newest(rows, home, next);
-    } else if let Some(node) = before(rows, first, x) {
-        set_older(rows, usize::from(node), next);
+    } else if let Some(node) = before(rows, first, x as u16) {
+        set_older(rows, node, next);
     }
 }

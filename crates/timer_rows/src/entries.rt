@@ -4,9 +4,10 @@ ghost use Rattle.timer.specs.Rules.{check_rule, entered, with_pending, without};
 ghost use Rattle.timer_rows.specs.Kept.{Kept};
 ghost use Rattle.timer_rows.specs.Rows.{tickets, nexts, prevs, vacated, contents, entries, meant};
 
-use crate::chains::{chain, unchain};
+use crate::chains::{chain, home, unchain};
 use crate::ledger::Ledger;
 use crate::row::{NO_ROW, Row};
+use crate::rows::vacant;
 use timer::fault::TimerFault;
 
 /// Marks every row vacant, and the home of no entry.
@@ -46,26 +47,27 @@ pub fn check<P: Copy>(
     }
 }
 
-/// Puts an entry with the next ticket into a vacant row, and answers the ticket.
+/// Puts an entry with the next ticket into a vacant row, and answers the row and the ticket.
 pub fn enter<P: Copy>(
     rows: &mut [Row<P>],
     ledger: &mut Ledger,
-    x: usize,
     deadline: u32,
     owner: u8,
     payload: P,
-) -> u32
+) -> (usize, u32)
     requires kept { Kept rows.old ledger.now }
-    requires vacant { (x < length rows.old) × (slice_index (tickets rows.old) x ≡ 0) }
     requires allowed { check_rule (meant rows.old ledger.now) deadline owner ≡ None }
-    ensures ticket { result ≡ ledger.entry.now.given + 1 }
+    ensures row { (result.0 < length rows.old) × (slice_index (tickets rows.old) result.0 ≡ 0) }
+    ensures ticket { result.1 ≡ ledger.entry.now.given + 1 }
     ensures kept { Kept rows.new ledger.exit.now }
     ensures meant { meant rows.new ledger.exit.now ≡ entered (meant rows.old ledger.entry.now) deadline owner payload }
-    ensures contents { contents rows.new ≡ slice_set (contents rows.old) x (record { ticket = result; deadline = deadline; owner = owner; payload = payload }) }
+    ensures contents { contents rows.new ≡ slice_set (contents rows.old) result.0 (record { ticket = result.1; deadline = deadline; owner = owner; payload = payload }) }
     ensures links { (nexts rows.new ≡ nexts rows.old) × (prevs rows.new ≡ prevs rows.old) }
 {
     let ticket = ledger.raise(owner);
-    chain(rows, x as u16, ticket);
+    let home = home(rows.len(), ticket);
+    let x = vacant(rows, home, ledger.vacated);
+    chain(rows, x, home);
     let row = rows[x];
     rows[x] = Row {
         ticket,
@@ -77,7 +79,7 @@ pub fn enter<P: Copy>(
         owner,
         payload,
     };
-    ticket
+    (x, ticket)
 }
 
 /// Gives up the entry of a row.
@@ -89,8 +91,7 @@ pub fn leave<P: Copy>(rows: &mut [Row<P>], ledger: &mut Ledger, x: usize)
     ensures contents { (d : Entry P) → contents rows.new ≡ slice_set (contents rows.old) x (vacated (slice_index_or (contents rows.old) x d)) }
     ensures links { (nexts rows.new ≡ nexts rows.old) × (prevs rows.new ≡ prevs rows.old) }
 {
-    let ticket = rows[x].ticket;
-    unchain(rows, x as u16, ticket);
+    unchain(rows, x);
     let row = rows[x];
     rows[x] = Row { ticket: 0, ..row };
     ledger.lower(row.owner, x as u16);

@@ -3,7 +3,6 @@ ghost use Rattle.timer.specs.Rules.{find};
 ghost use Rattle.timer_rows.specs.Rows.{used, tickets, entries, Sought};
 
 use crate::chains::{chained, home};
-use crate::ledger::Ledger;
 use crate::row::Row;
 
 /// How many of the rows that were lent a store uses: all of them, but at most 4,096.
@@ -36,13 +35,6 @@ fn seek_from<P: Copy>(rows: &[Row<P>], ticket: u32, first: usize) -> Option<usiz
     seek(&rows[..first], ticket)
 }
 
-// Whether there is such a row, and it is vacant.
-fn is_vacant<P: Copy>(rows: &[Row<P>], x: usize) -> bool
-    ensures { result ≡ true → (x < length rows.now) × (slice_index (tickets rows.now) x ≡ 0) }
-{
-    rows.get(x).is_some_and(|row| row.ticket == 0)
-}
-
 /// The row of the pending entry with the ticket.
 #[tactic(auto, using(crate::proofs::Asked::no_ticket, crate::proofs::Asked::sought_ticket))]
 pub fn row_of<P: Copy>(rows: &[Row<P>], ticket: u32) -> Option<usize>
@@ -57,17 +49,24 @@ pub fn row_of<P: Copy>(rows: &[Row<P>], ticket: u32) -> Option<usize>
     seek_from(rows, ticket, home(rows.len(), ticket))
 }
 
-/// A vacant row: the home of the next ticket, or the row that was left last, or else the first one from the home on.
+// Whether there is such a row, and it is vacant.
+fn is_vacant<P: Copy>(rows: &[Row<P>], x: usize) -> bool
+    ensures { result ≡ true → (x < length rows.now) × (slice_index (tickets rows.now) x ≡ 0) }
+{
+    rows.get(x).is_some_and(|row| row.ticket == 0)
+}
+
+/// A vacant row for an entry: its home, or the row that was left last, or else the first one from the home on.
 #[tactic(auto, using(crate::proofs::Asked::sought_room))]
-pub fn vacant<P: Copy>(rows: &[Row<P>], ledger: &Ledger) -> usize
-    requires { length (entries rows.now) ≢ length rows.now }
+pub fn vacant<P: Copy>(rows: &[Row<P>], home: usize, left: u16) -> usize
+    requires home { home < length rows.now }
+    requires room { length (entries rows.now) ≢ length rows.now }
     ensures { (result < length rows.now) × (slice_index (tickets rows.now) result ≡ 0) }
 {
-    let home = home(rows.len(), ledger.given.saturating_add(1));
-    if is_vacant(rows, home) {
+    if rows[home].ticket == 0 {
         return home;
     }
-    let left = usize::from(ledger.vacated);
+    let left = usize::from(left);
     if is_vacant(rows, left) {
         return left;
     }

@@ -8,7 +8,6 @@ use timer_rows::entries::{enter, leave};
 use timer_rows::ledger::Ledger;
 use timer_rows::links::Sentinels;
 use timer_rows::row::Row;
-use timer_rows::rows::vacant;
 
 /// The last tick of every wheel: four digits of 63.
 pub const LAST_TICK: u32 = 16_777_215;
@@ -47,8 +46,7 @@ impl<P: Copy> Order<P> for WheelOrder {
         payload: P,
     ) -> u32 {
         let slot = place(ledger.now, deadline);
-        let x = vacant(rows, ledger);
-        let ticket = enter(rows, ledger, x, deadline, owner, payload);
+        let (x, ticket) = enter(rows, ledger, deadline, owner, payload);
         self.append(rows, x as u16, slot);
         ticket
     }

@@ -4,8 +4,8 @@ use Rattle.timer_rows.proofs.Columns.{column_same}
 use Rattle.timer_rows.proofs.Same.{links_kept}
 use Rattle.timer_rows.proofs.chains.set_newest.Goals as goal
 
-pub returns-then-x-rows : goal.returns-then-x-rows
-returns-then-x-rows g c =
+pub returns : goal.returns
+returns g c =
     record {
       contents = column_same entry_of c.args.rows.now c.args.x _ _ (omega arith) refl;
       links = links_kept c.args.rows.now c.args.x _ _ (omega arith) refl refl;
