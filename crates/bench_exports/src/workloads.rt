@@ -111,8 +111,17 @@ fn restart<S: Store<u32>>(store: &mut S, operations: u64) -> Sum {
     sum
 }
 
-// Takes what is due.
+// Takes what is due: nothing, in most ticks.
 fn take_due<S: Store<u32>>(store: &mut S, sum: &mut Sum) {
+    if let Some(entry) = store.take() {
+        take_more(store, sum, entry.payload);
+    }
+}
+
+// Sums up one that was due, and takes the others.
+#[inline(never)]
+fn take_more<S: Store<u32>>(store: &mut S, sum: &mut Sum, first: u32) {
+    sum.add(mix(store.now(), first));
     while let Some(entry) = store.take() {
         sum.add(mix(store.now(), entry.payload));
     }
@@ -143,6 +152,15 @@ fn fire<S: Store<u32>>(store: &mut S, timers: u32, rounds: u64) -> Sum {
     sum
 }
 
+// Lets so many ticks pass; a function of its own, too.
+#[inline(never)]
+fn pass<S: Store<u32>>(store: &mut S, ticks: u64, sum: &mut Sum) {
+    for _ in 0..ticks {
+        let _ = store.advance();
+        take_due(store, sum);
+    }
+}
+
 fn idle<S: Store<u32>>(store: &mut S, ticks: u64) -> Sum {
     let mut random = Random::new();
     let mut sum = Sum::new();
@@ -150,10 +168,7 @@ fn idle<S: Store<u32>>(store: &mut S, ticks: u64) -> Sum {
         let ahead = random.below(6_000_000).wrapping_add(10_000_001);
         start(store, ahead, payload);
     }
-    for _ in 0..ticks {
-        let _ = store.advance();
-        take_due(store, &mut sum);
-    }
+    pass(store, ticks, &mut sum);
     sum.add(mix(store.now(), 0));
     sum
 }

@@ -1,7 +1,7 @@
 use Rattle.std.proofs.Common.{◌<◌, length, sym, refl, subst}
 use Rattle.timer.specs.Rules.{due_entry}
 use Rattle.bench_exports.proofs.Taken.{fewer}
-use Rattle.bench_exports.proofs.workloads.take_due.Goals as goal
+use Rattle.bench_exports.proofs.workloads.take_more.Goals as goal
 
 pub loop-entry-smaller : goal.loop-entry-smaller
 loop-entry-smaller g c =

@@ -1,5 +1,5 @@
 use Rattle.std.proofs.Common.{length}
-use Rattle.bench_exports.proofs.workloads.take_due.Given as goal
+use Rattle.bench_exports.proofs.workloads.take_more.Given as goal
 
 abbrev pub invariant-loop-entry : goal.invariant-loop-entry
 invariant-loop-entry g l = Unit {0}
