@@ -1,12 +1,13 @@
 //! A binary heap by deadline, then ticket, in which each row knows its position.
 
-use super::chains::{chain, unchain};
-use super::ledger::Ledger;
-use super::rows::{self, cleared, row_of, vacant_row};
-use super::store::{Expired, Fault, Store};
+use super::row_store::{Order, RowStore};
+use super::rows;
 
 /// A row of a heap: its link is its position there.
 pub type Row<P> = rows::Row<P, u16>;
+
+/// A heap over rows that are lent to it.
+pub type Heap<'a, P> = RowStore<'a, P, HeapOrder>;
 
 // What stands in the heap for an entry.
 #[derive(Clone, Copy)]
@@ -29,54 +30,49 @@ impl Node {
     }
 }
 
-/// A heap over rows that are lent to it.
-pub struct Heap<'a, P> {
-    rows: &'a mut [Row<P>],
-    ledger: Ledger,
+/// The order of a binary heap.
+pub struct HeapOrder {
     nodes: Vec<Node>,
 }
 
 impl<'a, P: Copy> Heap<'a, P> {
     /// A heap with nothing pending over the rows, whatever they hold.
     pub fn new(rows: &'a mut [Row<P>], first: u32, last: u32) -> Heap<'a, P> {
-        let rows = cleared(rows);
-        let ledger = Ledger::new(first, last, rows.len());
-        let nodes = Vec::with_capacity(rows.len());
-        Heap {
-            rows,
-            ledger,
-            nodes,
-        }
+        RowStore::over(rows, first, last, |count| HeapOrder {
+            nodes: Vec::with_capacity(count),
+        })
     }
+}
 
-    fn put(&mut self, position: usize, node: Node) {
+impl HeapOrder {
+    fn put<P>(&mut self, rows: &mut [Row<P>], position: usize, node: Node) {
         self.nodes[position] = node;
-        self.rows[usize::from(node.row)].link = position as u16;
+        rows[usize::from(node.row)].link = position as u16;
     }
 
     // Brings an entry from a position up to its place.
-    fn sift_up(&mut self, mut position: usize, node: Node) {
+    fn sift_up<P>(&mut self, rows: &mut [Row<P>], mut position: usize, node: Node) {
         while position > 0 {
             let parent = (position - 1) / 2;
             if self.nodes[parent].rank <= node.rank {
                 break;
             }
-            self.put(position, self.nodes[parent]);
+            self.put(rows, position, self.nodes[parent]);
             position = parent;
         }
-        self.put(position, node);
+        self.put(rows, position, node);
     }
 
     // Brings an entry from a position down to its place.
-    fn sift_down(&mut self, mut position: usize, node: Node) {
+    fn sift_down<P>(&mut self, rows: &mut [Row<P>], mut position: usize, node: Node) {
         while let Some(child) = self.first_child(position) {
             if node.rank <= self.nodes[child].rank {
                 break;
             }
-            self.put(position, self.nodes[child]);
+            self.put(rows, position, self.nodes[child]);
             position = child;
         }
-        self.put(position, node);
+        self.put(rows, position, node);
     }
 
     // Of the positions below another, the one whose entry comes first.
@@ -89,86 +85,34 @@ impl<'a, P: Copy> Heap<'a, P> {
             (left < self.nodes.len()).then_some(left)
         }
     }
-
-    // Takes the entry of a row out of the heap.
-    fn remove(&mut self, x: usize) -> Expired<P> {
-        let gap = usize::from(self.rows[x].link);
-        if let Some(last) = self.nodes.pop() {
-            if gap > 0 && gap < self.nodes.len() && last.rank < self.nodes[(gap - 1) / 2].rank {
-                self.sift_up(gap, last);
-            } else if gap < self.nodes.len() {
-                self.sift_down(gap, last);
-            }
-        }
-        unchain(self.rows, x);
-        let row = &mut self.rows[x];
-        let expired = Expired {
-            ticket: row.ticket,
-            owner: row.owner,
-            payload: row.payload,
-        };
-        row.ticket = 0;
-        self.ledger.leave(expired.owner, x);
-        expired
-    }
-
-    // The row of the due entry with the lowest ticket.
-    fn first_due(&self) -> Option<usize> {
-        let first = self.nodes.first()?;
-        (first.deadline() == self.ledger.now).then_some(usize::from(first.row))
-    }
 }
 
-impl<P: Copy> Store<P> for Heap<'_, P> {
-    fn now(&self) -> u32 {
-        self.ledger.now
-    }
+impl<P: Copy> Order<P> for HeapOrder {
+    type Link = u16;
 
-    fn last(&self) -> u32 {
-        self.ledger.last
-    }
-
-    fn given(&self) -> u32 {
-        self.ledger.given
-    }
-
-    fn pending(&self) -> usize {
-        self.ledger.pending as usize
-    }
-
-    fn is_due(&self) -> bool {
-        self.first_due().is_some()
-    }
-
-    fn start(&mut self, deadline: u32, owner: u8, payload: P) -> Result<u32, Fault> {
-        self.ledger.check(deadline, owner)?;
-        let x =
-            vacant_row(self.rows, self.ledger.given + 1, self.ledger.vacated).ok_or(Fault::Full)?;
-        let ticket = self.ledger.enter(owner);
-        chain(self.rows, x, ticket);
-        let row = &mut self.rows[x];
-        row.ticket = ticket;
-        row.deadline = deadline;
-        row.owner = owner;
-        row.payload = payload;
-        let node = Node::new(deadline, ticket, x as u16);
+    fn insert(&mut self, rows: &mut [Row<P>], _now: u32, x: usize) {
+        let row = &rows[x];
+        let node = Node::new(row.deadline, row.ticket, x as u16);
         self.nodes.push(node);
-        self.sift_up(self.nodes.len() - 1, node);
-        Ok(ticket)
+        self.sift_up(rows, self.nodes.len() - 1, node);
     }
 
-    fn stop(&mut self, ticket: u32) -> Result<(u8, P), Fault> {
-        let x = row_of(self.rows, ticket).ok_or(Fault::Missing)?;
-        let stopped = self.remove(x);
-        Ok((stopped.owner, stopped.payload))
+    fn remove(&mut self, rows: &mut [Row<P>], x: usize) {
+        let gap = usize::from(rows[x].link);
+        let Some(last) = self.nodes.pop() else {
+            return;
+        };
+        if gap > 0 && gap < self.nodes.len() && last.rank < self.nodes[(gap - 1) / 2].rank {
+            self.sift_up(rows, gap, last);
+        } else if gap < self.nodes.len() {
+            self.sift_down(rows, gap, last);
+        }
     }
 
-    fn take(&mut self) -> Option<Expired<P>> {
-        let x = self.first_due()?;
-        Some(self.remove(x))
+    fn first_due(&self, now: u32) -> Option<usize> {
+        let first = self.nodes.first()?;
+        (first.deadline() == now).then_some(usize::from(first.row))
     }
 
-    fn advance(&mut self) -> Result<(), Fault> {
-        self.ledger.advance(self.is_due())
-    }
+    fn turn(&mut self, _rows: &mut [Row<P>], _now: u32) {}
 }

@@ -4,6 +4,7 @@ mod chains;
 pub mod heap;
 pub mod ledger;
 pub mod rig;
+pub mod row_store;
 pub mod rows;
 pub mod store;
 #[cfg(test)]
