@@ -17,6 +17,10 @@ pub enum Kind {
     Wheel = 0,
     Heap = 1,
     List = 2,
+    /// The wheel, whose calls are not inlined into the workload.
+    CalledWheel = 3,
+    /// The heap likewise.
+    CalledHeap = 4,
 }
 
 /// A workload over a proved store.

@@ -82,6 +82,14 @@ fn contenders() -> Vec<Contender> {
             divisor: 20,
             ..Contender::new("proved list", |workload| proved::sum(Kind::List, workload))
         },
+        #[cfg(proved)]
+        Contender::new("proved wheel, called", |workload| {
+            proved::sum(Kind::CalledWheel, workload)
+        }),
+        #[cfg(proved)]
+        Contender::new("proved heap, called", |workload| {
+            proved::sum(Kind::CalledHeap, workload)
+        }),
         Contender::new("std BinaryHeap, lazy deletion", |workload| {
             sum_of(workload, std_heap::StdHeap::new())
         }),

@@ -1,5 +1,6 @@
 #![tactic(auto)]
 
+mod called;
 mod random;
 mod rig;
 mod stores;
@@ -11,7 +12,7 @@ use crate::workloads::Workload;
 use std::alloc::Global;
 
 // Workloads that a program in C or in Rust can time. Each answers a sum that tells what fired and in which order, or 2^64 - 1 for want of memory.
-// The store is 0 for the wheel, 1 for the heap, and the list for any other number.
+// The store is 0 for the wheel, 1 for the heap, 3 and 4 for these two with calls that stay calls, and the list for any other number.
 
 /// Stops and starts timers anew, with a tick after every eighth.
 #[unsafe(no_mangle)]
@@ -44,7 +45,7 @@ pub extern "C" fn bench_start_stop(heap: Global, store: u32, pending: u32, opera
     stores::run(heap, Kind::numbered(store), workload).unwrap_or(u64::MAX)
 }
 
-/// Makes so many steps of a rig that is kept busy on 64 channels.
+/// Makes so many steps of a rig that is kept busy on 64 channels; here 3 and 4 are simply the wheel and the heap.
 #[unsafe(no_mangle)]
 pub extern "C" fn bench_rig(heap: Global, store: u32, steps: u64) -> u64 {
     rig::run(heap, Kind::numbered(store), steps).unwrap_or(u64::MAX)

@@ -225,11 +225,11 @@ fn over<O: Order<Packet> + Order<Attempt> + Order<u8> + Drop>(
     Ok(sum.total)
 }
 
-/// The sum of so many steps of a rig over stores of a kind.
+/// The sum of so many steps of a rig over stores of a kind; no call is kept a call here.
 pub fn run(heap: Global, kind: Kind, steps: u64) -> Result<u64, AllocError> {
     match kind {
-        Kind::Wheel => over::<WheelOrder>(heap, steps),
-        Kind::Heap => over::<HeapOrder>(heap, steps),
+        Kind::Wheel | Kind::CalledWheel => over::<WheelOrder>(heap, steps),
+        Kind::Heap | Kind::CalledHeap => over::<HeapOrder>(heap, steps),
         Kind::List => over::<ListOrder>(heap, steps),
     }
 }

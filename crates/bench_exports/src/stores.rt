@@ -1,3 +1,4 @@
+use crate::called::Called;
 use crate::workloads::Workload;
 use std::alloc::{AllocError, Global};
 use timer_heap::heap::HeapOrder;
@@ -18,14 +19,20 @@ pub enum Kind {
     Heap,
     /// The sorted list.
     List,
+    /// The timing wheel, whose calls stay calls.
+    CalledWheel,
+    /// The binary heap, whose calls stay calls.
+    CalledHeap,
 }
 
 impl Kind {
-    /// The kind that a number stands for: 0 the wheel, 1 the heap, any other the list.
+    /// The kind that a number stands for: 0 the wheel, 1 the heap, 3 and 4 these two with calls that stay calls, any other the list.
     pub fn numbered(number: u32) -> Kind {
         match number {
             0 => Kind::Wheel,
             1 => Kind::Heap,
+            3 => Kind::CalledWheel,
+            4 => Kind::CalledHeap,
             _ => Kind::List,
         }
     }
@@ -37,11 +44,20 @@ fn over<O: Order<u32> + Drop>(heap: Global, workload: Workload) -> Result<u64, A
     workload.run(heap, &mut store)
 }
 
+// The same, with calls of the store that stay calls.
+fn over_called<O: Order<u32> + Drop>(heap: Global, workload: Workload) -> Result<u64, AllocError> {
+    let mut rows = vec![in heap; Row::vacant(0); ROWS]?;
+    let mut store = RowStore::<u32, O>::new(&mut rows, 0, LAST_TICK);
+    workload.run(heap, &mut Called::new(&mut store))
+}
+
 /// The sum of a workload over a store of a kind, which has 4,096 rows and begins at tick 0.
 pub fn run(heap: Global, kind: Kind, workload: Workload) -> Result<u64, AllocError> {
     match kind {
         Kind::Wheel => over::<WheelOrder>(heap, workload),
         Kind::Heap => over::<HeapOrder>(heap, workload),
         Kind::List => over::<ListOrder>(heap, workload),
+        Kind::CalledWheel => over_called::<WheelOrder>(heap, workload),
+        Kind::CalledHeap => over_called::<HeapOrder>(heap, workload),
     }
 }
