@@ -18,6 +18,14 @@ const FIRE_SPAN: u32 = 100_000;
 
 const FIRE_TICKS: u32 = FIRE_SPAN + 1;
 
+// How many timers wait while ticks pass.
+const IDLE_TIMERS: u32 = 64;
+
+/// What the timers of a workload carry: a number.
+pub trait Payload: Copy + From<u32> + Into<u32> {}
+
+impl<P: Copy + From<u32> + Into<u32>> Payload for P {}
+
 /// What is done to a store that has nothing pending.
 #[derive(Clone, Copy)]
 pub enum Workload {
@@ -49,7 +57,11 @@ pub enum Workload {
 
 impl Workload {
     /// Does the work, and answers its sum.
-    pub fn run<S: Store<u32>>(self, heap: Global, store: &mut S) -> Result<u64, AllocError> {
+    pub fn run<P: Payload, S: Store<P>>(
+        self,
+        heap: Global,
+        store: &mut S,
+    ) -> Result<u64, AllocError> {
         let sum = match self {
             Workload::Restart { operations } => restart(store, operations),
             Workload::Fire { timers, rounds } => fire(store, timers, rounds),
@@ -67,28 +79,29 @@ impl Workload {
 }
 
 // Starts a timer so many ticks ahead, and answers its ticket, or 0.
-fn start<S: Store<u32>>(store: &mut S, ahead: u32, payload: u32) -> u32 {
+fn start<P: Payload, S: Store<P>>(store: &mut S, ahead: u32, payload: u32) -> u32 {
     let deadline = store.now().wrapping_add(ahead);
     let owner = (payload % OWNERS) as u8;
-    store.start(deadline, owner, payload).unwrap_or(0)
+    store.start(deadline, owner, P::from(payload)).unwrap_or(0)
 }
 
 // Takes what is due, and starts it anew.
-fn renew<S: Store<u32>>(store: &mut S, tickets: &mut [u32; RESTARTED], sum: &mut Sum) {
+fn renew<P: Payload, S: Store<P>>(store: &mut S, tickets: &mut [u32; RESTARTED], sum: &mut Sum) {
     for _ in 0..MOST_DUE {
         let Some(entry) = store.take() else {
             break;
         };
-        let mixed = mix(store.now(), entry.payload);
+        let payload = entry.payload.into();
+        let mixed = mix(store.now(), payload);
         sum.add(mixed);
-        if let Some(ticket) = tickets.get_mut(entry.payload as usize) {
+        if let Some(ticket) = tickets.get_mut(payload as usize) {
             let ahead = 1 + ((mixed >> 40) % u64::from(RESTART_SPAN)) as u32;
-            *ticket = start(store, ahead, entry.payload);
+            *ticket = start(store, ahead, payload);
         }
     }
 }
 
-fn restart<S: Store<u32>>(store: &mut S, operations: u64) -> Sum {
+fn restart<P: Payload, S: Store<P>>(store: &mut S, operations: u64) -> Sum {
     let mut random = Random::new();
     let mut tickets = [0; RESTARTED];
     for (payload, ticket) in tickets.iter_mut().enumerate() {
@@ -112,24 +125,24 @@ fn restart<S: Store<u32>>(store: &mut S, operations: u64) -> Sum {
 }
 
 // Takes what is due: nothing, in most ticks.
-fn take_due<S: Store<u32>>(store: &mut S, sum: &mut Sum) {
+fn take_due<P: Payload, S: Store<P>>(store: &mut S, sum: &mut Sum) {
     if let Some(entry) = store.take() {
-        take_more(store, sum, entry.payload);
+        take_more(store, sum, entry.payload.into());
     }
 }
 
 // Sums up one that was due, and takes the others.
 #[inline(never)]
-fn take_more<S: Store<u32>>(store: &mut S, sum: &mut Sum, first: u32) {
+fn take_more<P: Payload, S: Store<P>>(store: &mut S, sum: &mut Sum, first: u32) {
     sum.add(mix(store.now(), first));
     while let Some(entry) = store.take() {
-        sum.add(mix(store.now(), entry.payload));
+        sum.add(mix(store.now(), entry.payload.into()));
     }
 }
 
 // Lets ticks pass until all timers have fired; a function of its own, so that the loop is laid out for itself.
 #[inline(never)]
-fn fire_all<S: Store<u32>>(store: &mut S, sum: &mut Sum) {
+fn fire_all<P: Payload, S: Store<P>>(store: &mut S, sum: &mut Sum) {
     for _ in 0..FIRE_TICKS {
         if store.pending() == 0 {
             break;
@@ -139,7 +152,16 @@ fn fire_all<S: Store<u32>>(store: &mut S, sum: &mut Sum) {
     }
 }
 
-fn fire<S: Store<u32>>(store: &mut S, timers: u32, rounds: u64) -> Sum {
+// Lets so many ticks pass; a function of its own, too.
+#[inline(never)]
+fn pass<P: Payload, S: Store<P>>(store: &mut S, ticks: u64, sum: &mut Sum) {
+    for _ in 0..ticks {
+        let _ = store.advance();
+        take_due(store, sum);
+    }
+}
+
+fn fire<P: Payload, S: Store<P>>(store: &mut S, timers: u32, rounds: u64) -> Sum {
     let mut random = Random::new();
     let mut sum = Sum::new();
     for _ in 0..rounds {
@@ -152,19 +174,10 @@ fn fire<S: Store<u32>>(store: &mut S, timers: u32, rounds: u64) -> Sum {
     sum
 }
 
-// Lets so many ticks pass; a function of its own, too.
-#[inline(never)]
-fn pass<S: Store<u32>>(store: &mut S, ticks: u64, sum: &mut Sum) {
-    for _ in 0..ticks {
-        let _ = store.advance();
-        take_due(store, sum);
-    }
-}
-
-fn idle<S: Store<u32>>(store: &mut S, ticks: u64) -> Sum {
+fn idle<P: Payload, S: Store<P>>(store: &mut S, ticks: u64) -> Sum {
     let mut random = Random::new();
     let mut sum = Sum::new();
-    for payload in 0..64 {
+    for payload in 0..IDLE_TIMERS {
         let ahead = random.below(6_000_000).wrapping_add(10_000_001);
         start(store, ahead, payload);
     }
@@ -173,7 +186,7 @@ fn idle<S: Store<u32>>(store: &mut S, ticks: u64) -> Sum {
     sum
 }
 
-fn start_stop<S: Store<u32>>(
+fn start_stop<P: Payload, S: Store<P>>(
     store: &mut S,
     tickets: &mut [u32],
     pending: u32,
