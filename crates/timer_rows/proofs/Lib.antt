@@ -11,3 +11,4 @@ pub mod Parts
 pub mod Props
 pub mod Sounds
 pub mod Asked
+pub mod Chained

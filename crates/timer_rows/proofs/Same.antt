@@ -6,6 +6,7 @@ use Rattle.timer.specs.Meaning.{Entry, Meaning}
 use Rattle.timer.specs.Rules.{count, with_pending, without}
 use Rattle.timer_rows.specs.declared.row.Row.{Row}
 use Rattle.timer_rows.specs.declared.ledger.Ledger.{Ledger}
+use Rattle.timer_rows.specs.Chains.{newests, olders}
 use Rattle.timer_rows.specs.Counts.{ticked_ledger}
 use Rattle.timer_rows.specs.Kept.{Kept}
 use Rattle.timer_rows.specs.Rows.{tickets, deadlines, owners, nexts, prevs, contents, entry_of, listed, entries, meant, NoneDue}
@@ -69,6 +70,10 @@ module _ {P : Type 0} where
   -- a row that changes and keeps its links
   pub links_kept : (rows : List (Row P)) (x : ℕ) (r d : Row P) → x < length rows → r.next ≡ (get_or rows x d).next → r.prev ≡ (get_or rows x d).prev → (nexts (set rows x r) ≡ nexts rows) × (prevs (set rows x r) ≡ prevs rows)
   links_kept rows x r d l nx pv = (column_same (λ r. r.next) rows x r d l nx, column_same (λ r. r.prev) rows x r d l pv)
+
+  -- and its chain links
+  pub chains_kept : (rows : List (Row P)) (x : ℕ) (r d : Row P) → x < length rows → r.newest ≡ (get_or rows x d).newest → r.older ≡ (get_or rows x d).older → (newests (set rows x r) ≡ newests rows) × (olders (set rows x r) ≡ olders rows)
+  chains_kept rows x r d l n o = (column_same (λ r. r.newest) rows x r d l n, column_same (λ r. r.older) rows x r d l o)
 
   -- one tick later, where nothing was due
   pub tick_kept : (rows : List (Row P)) (l : Ledger) → Kept rows l → NoneDue l.now rows → l.now ≢ l.last → Kept rows (ticked_ledger l)

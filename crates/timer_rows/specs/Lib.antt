@@ -1,4 +1,5 @@
 pub mod Counts
 pub mod Rows
+pub mod Chains
 pub mod Kept
 pub mod Links

@@ -1,4 +1,5 @@
-ghost use Rattle.std.specs.Prelude.{◌≡◌, ◌<◌, ◌≤◌, ⊤, length, MatchOption, slice_index};
+ghost use Rattle.std.specs.Prelude.{◌≡◌, ◌<◌, ◌≤◌, ⊤, length, MatchOption, slice_index, slice_index_or, slice_set};
+ghost use Rattle.timer_rows.specs.Chains.{newests, olders, home_of, along, newests_without, olders_without};
 ghost use Rattle.timer_rows.specs.Rows.{tickets, nexts, prevs, contents};
 
 use crate::row::Row;
@@ -14,7 +15,8 @@ const MOST: usize = 64;
 ///
 /// The homes of tickets that follow one another lie far apart, so that few tickets share one.
 pub fn home(count: usize, ticket: u32) -> usize
-    ensures { 0 < count → count ≤ 4096 → result < count }
+    ensures value { count ≤ 4096 → result ≡ home_of count ticket }
+    ensures row { 0 < count → count ≤ 4096 → result < count }
 {
     let part = u64::from(ticket.wrapping_mul(0x9E37_79B9));
     (part.wrapping_mul(count as u64) >> 32) as usize
@@ -22,7 +24,8 @@ pub fn home(count: usize, ticket: u32) -> usize
 
 /// The row that the chain of the ticket's home has for the ticket.
 pub fn chained<P: Copy>(rows: &[Row<P>], ticket: u32) -> Option<usize>
-    ensures { MatchOption result ⊤ (λ x. (x < length rows.now) × (slice_index (tickets rows.now) x ≡ ticket)) }
+    ensures value { length rows.now ≤ 4096 → result ≡ along 64 (tickets rows.now) (olders rows.now) (slice_index_or (newests rows.now) (home_of (length rows.now) ticket) 65535) ticket }
+    ensures row { MatchOption result ⊤ (λ x. (x < length rows.now) × (slice_index (tickets rows.now) x ≡ ticket)) }
 {
     let mut x = rows.get(home(rows.len(), ticket))?.newest;
     for _ in 0..MOST {
@@ -37,6 +40,7 @@ pub fn chained<P: Copy>(rows: &[Row<P>], ticket: u32) -> Option<usize>
 
 fn set_newest<P: Copy>(rows: &mut [Row<P>], x: usize, to: u16)
     requires { x < length rows.old }
+    ensures chains { (newests rows.new ≡ slice_set (newests rows.old) x to) × (olders rows.new ≡ olders rows.old) }
     ensures contents { contents rows.new ≡ contents rows.old }
     ensures links { (nexts rows.new ≡ nexts rows.old) × (prevs rows.new ≡ prevs rows.old) }
 {
@@ -45,6 +49,7 @@ fn set_newest<P: Copy>(rows: &mut [Row<P>], x: usize, to: u16)
 
 fn set_older<P: Copy>(rows: &mut [Row<P>], x: usize, to: u16)
     requires { x < length rows.old }
+    ensures chains { (newests rows.new ≡ newests rows.old) × (olders rows.new ≡ slice_set (olders rows.old) x to) }
     ensures contents { contents rows.new ≡ contents rows.old }
     ensures links { (nexts rows.new ≡ nexts rows.old) × (prevs rows.new ≡ prevs rows.old) }
 {
@@ -54,6 +59,7 @@ fn set_older<P: Copy>(rows: &mut [Row<P>], x: usize, to: u16)
 /// Puts a row at the front of the chain of a home.
 pub fn chain<P: Copy>(rows: &mut [Row<P>], x: usize, home: usize)
     requires { (x < length rows.old) × (home < length rows.old) × (length rows.old ≤ 4096) }
+    ensures chains { (newests rows.new ≡ slice_set (newests rows.old) home x) × (olders rows.new ≡ slice_set (olders rows.old) x (slice_index (newests rows.old) home)) }
     ensures contents { contents rows.new ≡ contents rows.old }
     ensures links { (nexts rows.new ≡ nexts rows.old) × (prevs rows.new ≡ prevs rows.old) }
 {
@@ -64,7 +70,8 @@ pub fn chain<P: Copy>(rows: &mut [Row<P>], x: usize, home: usize)
 
 // The row before another one in the chain that begins with a third.
 fn before<P: Copy>(rows: &[Row<P>], first: u16, x: u16) -> Option<usize>
-    ensures { MatchOption result ⊤ (λ node. node < length rows.now) }
+    ensures value { result ≡ along 64 (olders rows.now) (olders rows.now) first x }
+    ensures row { MatchOption result ⊤ (λ node. node < length rows.now) }
 {
     let mut node = usize::from(first);
     for _ in 0..MOST {
@@ -80,6 +87,8 @@ fn before<P: Copy>(rows: &[Row<P>], first: u16, x: u16) -> Option<usize>
 /// Takes a row out of the chain of its ticket's home.
 pub fn unchain<P: Copy>(rows: &mut [Row<P>], x: usize)
     requires { (x < length rows.old) × (length rows.old ≤ 4096) }
+    ensures newest { newests rows.new ≡ newests_without (newests rows.old) (olders rows.old) (home_of (length rows.old) (slice_index (tickets rows.old) x)) x }
+    ensures older { olders rows.new ≡ olders_without (newests rows.old) (olders rows.old) (home_of (length rows.old) (slice_index (tickets rows.old) x)) x }
     ensures contents { contents rows.new ≡ contents rows.old }
     ensures links { (nexts rows.new ≡ nexts rows.old) × (prevs rows.new ≡ prevs rows.old) }
 {

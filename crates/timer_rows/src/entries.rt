@@ -1,6 +1,7 @@
 ghost use Rattle.std.specs.Prelude.{◌≡◌, ℕ, ◌+◌, ◌<◌, ◌≤◌, min, ◌≢◌, [], length, replicate, None, slice_index, slice_index_or, slice_set};
 ghost use Rattle.timer.specs.Meaning.{Entry};
 ghost use Rattle.timer.specs.Rules.{check_rule, entered, with_pending, without};
+ghost use Rattle.timer_rows.specs.Chains.{newests, olders, home_of, newests_without, olders_without};
 ghost use Rattle.timer_rows.specs.Kept.{Kept};
 ghost use Rattle.timer_rows.specs.Rows.{tickets, nexts, prevs, vacated, contents, entries, meant};
 
@@ -12,7 +13,8 @@ use timer::fault::TimerFault;
 
 /// Marks every row vacant, and the home of no entry.
 pub fn clear<P: Copy>(rows: &mut [Row<P>])
-    ensures { (i : ℕ) → slice_index (tickets rows.new) i ≡ 0 }
+    ensures vacant { (i : ℕ) → slice_index (tickets rows.new) i ≡ 0 }
+    ensures chains { (i : ℕ) → slice_index_or (newests rows.new) i 65535 ≡ 65535 }
 {
     for row in rows.iter_mut() {
         row.ticket = 0;
@@ -63,6 +65,7 @@ pub fn enter<P: Copy>(
     ensures meant { meant rows.new ledger.exit.now ≡ entered (meant rows.old ledger.entry.now) deadline owner payload }
     ensures contents { contents rows.new ≡ slice_set (contents rows.old) result.0 (record { ticket = result.1; deadline = deadline; owner = owner; payload = payload }) }
     ensures links { (nexts rows.new ≡ nexts rows.old) × (prevs rows.new ≡ prevs rows.old) }
+    ensures chains { (newests rows.new ≡ slice_set (newests rows.old) (home_of (length rows.old) result.1) result.0) × (olders rows.new ≡ slice_set (olders rows.old) result.0 (slice_index (newests rows.old) (home_of (length rows.old) result.1))) }
 {
     let ticket = ledger.raise(owner);
     let home = home(rows.len(), ticket);
@@ -90,6 +93,9 @@ pub fn leave<P: Copy>(rows: &mut [Row<P>], ledger: &mut Ledger, x: usize)
     ensures meant { meant rows.new ledger.exit.now ≡ with_pending (meant rows.old ledger.entry.now) (without (slice_index (tickets rows.old) x) (entries rows.old)) }
     ensures contents { (d : Entry P) → contents rows.new ≡ slice_set (contents rows.old) x (vacated (slice_index_or (contents rows.old) x d)) }
     ensures links { (nexts rows.new ≡ nexts rows.old) × (prevs rows.new ≡ prevs rows.old) }
+    ensures newest { newests rows.new ≡ newests_without (newests rows.old) (olders rows.old) (home_of (length rows.old) (slice_index (tickets rows.old) x)) x }
+    ensures older { olders rows.new ≡ olders_without (newests rows.old) (olders rows.old) (home_of (length rows.old) (slice_index (tickets rows.old) x)) x }
+    ensures left { ledger.exit.now.vacated ≡ x }
 {
     unchain(rows, x);
     let row = rows[x];

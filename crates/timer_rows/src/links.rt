@@ -1,4 +1,5 @@
 ghost use Rattle.std.specs.Prelude.{◌≡◌, ℕ, ◌+◌, ◌<◌, ◌≤◌, length, slice_index, slice_index_or, slice_set};
+ghost use Rattle.timer_rows.specs.Chains.{newests, olders};
 ghost use Rattle.timer_rows.specs.Links.{ons, backs};
 ghost use Rattle.timer_rows.specs.Rows.{contents};
 
@@ -60,6 +61,7 @@ impl<const N: usize> Sentinels<N> {
         ensures ons { ons rows.new self.new.ends ≡ slice_set (ons rows.old self.old.ends) node to }
         ensures backs { backs rows.new self.new.ends ≡ backs rows.old self.old.ends }
         ensures contents { contents rows.new ≡ contents rows.old }
+        ensures chains { (newests rows.new ≡ newests rows.old) × (olders rows.new ≡ olders rows.old) }
     {
         let i = node as usize;
         if i < rows.len() {
@@ -74,6 +76,7 @@ impl<const N: usize> Sentinels<N> {
         ensures ons { ons rows.new self.new.ends ≡ ons rows.old self.old.ends }
         ensures backs { backs rows.new self.new.ends ≡ slice_set (backs rows.old self.old.ends) node to }
         ensures contents { contents rows.new ≡ contents rows.old }
+        ensures chains { (newests rows.new ≡ newests rows.old) × (olders rows.new ≡ olders rows.old) }
     {
         let i = node as usize;
         if i < rows.len() {
@@ -91,6 +94,7 @@ impl<const N: usize> Sentinels<N> {
         ensures ons { ons rows.new self.new.ends ≡ slice_set (ons rows.old self.old.ends) (slice_index (backs rows.old self.old.ends) x) (slice_index (ons rows.old self.old.ends) x) }
         ensures backs { backs rows.new self.new.ends ≡ slice_set (backs rows.old self.old.ends) (slice_index (ons rows.old self.old.ends) x) (slice_index (backs rows.old self.old.ends) x) }
         ensures contents { contents rows.new ≡ contents rows.old }
+        ensures chains { (newests rows.new ≡ newests rows.old) × (olders rows.new ≡ olders rows.old) }
     {
         let Ends {
             head: after,
@@ -107,6 +111,7 @@ impl<const N: usize> Sentinels<N> {
         ensures ons { ons rows.new self.new.ends ≡ slice_set (slice_set (ons rows.old self.old.ends) (slice_index (backs rows.old self.old.ends) node) x) x node }
         ensures backs { backs rows.new self.new.ends ≡ slice_set (slice_set (backs rows.old self.old.ends) node x) x (slice_index (backs rows.old self.old.ends) node) }
         ensures contents { contents rows.new ≡ contents rows.old }
+        ensures chains { (newests rows.new ≡ newests rows.old) × (olders rows.new ≡ olders rows.old) }
     {
         let before = self.beside(rows, node).tail;
         self.set_next(rows, before, x);
@@ -141,6 +146,7 @@ impl<const N: usize> Sentinels<N> {
         ensures ons { ons rows.new self.new.ends ≡ slice_set (slice_set (ons rows.old self.old.ends) (slice_index (backs rows.old self.old.ends) (length rows.old + slot)) x) x (length rows.old + slot) }
         ensures backs { backs rows.new self.new.ends ≡ slice_set (slice_set (backs rows.old self.old.ends) (length rows.old + slot) x) x (slice_index (backs rows.old self.old.ends) (length rows.old + slot)) }
         ensures contents { contents rows.new ≡ contents rows.old }
+        ensures chains { (newests rows.new ≡ newests rows.old) × (olders rows.new ≡ olders rows.old) }
     {
         let sentinel = (rows.len() + slot) as u16;
         let last = self.last(rows, slot);

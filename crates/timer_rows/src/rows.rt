@@ -51,7 +51,8 @@ pub fn row_of<P: Copy>(rows: &[Row<P>], ticket: u32) -> Option<usize>
 
 // Whether there is such a row, and it is vacant.
 fn is_vacant<P: Copy>(rows: &[Row<P>], x: usize) -> bool
-    ensures { result ≡ true → (x < length rows.now) × (slice_index (tickets rows.now) x ≡ 0) }
+    ensures only { result ≡ true → (x < length rows.now) × (slice_index (tickets rows.now) x ≡ 0) }
+    ensures all { x < length rows.now → slice_index (tickets rows.now) x ≡ 0 → result ≡ true }
 {
     rows.get(x).is_some_and(|row| row.ticket == 0)
 }
@@ -61,7 +62,9 @@ fn is_vacant<P: Copy>(rows: &[Row<P>], x: usize) -> bool
 pub fn vacant<P: Copy>(rows: &[Row<P>], home: usize, left: u16) -> usize
     requires home { home < length rows.now }
     requires room { length (entries rows.now) ≢ length rows.now }
-    ensures { (result < length rows.now) × (slice_index (tickets rows.now) result ≡ 0) }
+    ensures row { (result < length rows.now) × (slice_index (tickets rows.now) result ≡ 0) }
+    ensures home { slice_index (tickets rows.now) home ≡ 0 → result ≡ home }
+    ensures left { slice_index (tickets rows.now) home ≢ 0 → left < length rows.now → slice_index (tickets rows.now) left ≡ 0 → result ≡ left }
 {
     if rows[home].ticket == 0 {
         return home;

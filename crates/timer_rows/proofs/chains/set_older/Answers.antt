@@ -1,4 +1,5 @@
 use Rattle.std.proofs.Common.{refl, arith}
+use Rattle.std.proofs.lemmas.List.{map-set}
 use Rattle.timer_rows.specs.Rows.{entry_of}
 use Rattle.timer_rows.proofs.Columns.{column_same}
 use Rattle.timer_rows.proofs.Same.{links_kept}
@@ -7,6 +8,7 @@ use Rattle.timer_rows.proofs.chains.set_older.Goals as goal
 pub returns : goal.returns
 returns g c =
     record {
+      chains = (column_same (λ r. r.newest) c.args.rows.now c.args.x _ _ (omega arith) refl, map-set (λ r. r.older) c.args.rows.now c.args.x _);
       contents = column_same entry_of c.args.rows.now c.args.x _ _ (omega arith) refl;
       links = links_kept c.args.rows.now c.args.x _ _ (omega arith) refl refl;
     }

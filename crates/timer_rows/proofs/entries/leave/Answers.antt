@@ -3,7 +3,7 @@ use Rattle.std.proofs.lemmas.List.{map-set, get_or-map}
 use Rattle.timer_rows.specs.declared.row.Row.{Row}
 use Rattle.timer_rows.specs.Rows.{entry_of, contents, vacated}
 use Rattle.timer_rows.proofs.Keeping.{leave_known, leave_some, kept_leave, meant_leave}
-use Rattle.timer_rows.proofs.Same.{same_kept, same_live, left_meant, links_kept}
+use Rattle.timer_rows.proofs.Same.{same_kept, same_live, left_meant, links_kept, chains_kept}
 use Rattle.timer_rows.proofs.entries.leave.Goals as goal
 
 pub lower-requires : goal.lower-requires
@@ -36,4 +36,7 @@ returns g c =
           ∙ ap (λ c. set c x (entry_of r)) same
           ∙ ap (λ e. set (contents rows) x (vacated e)) (ap entry_of c.index-rows-x.is ∙ sym (get_or-map entry_of mid x s d v.0) ∙ ap (λ c. get_or c x d) same);
       links = let k = links_kept mid x r s v.0 (ap (λ (q : Row g.row.P.Denot). q.next) c.index-rows-x.is) (ap (λ (q : Row g.row.P.Denot). q.prev) c.index-rows-x.is) in (k.0 ∙ c.unchain.ensures.links.0, k.1 ∙ c.unchain.ensures.links.1);
+      newest = (chains_kept mid x r s v.0 (ap (λ (q : Row g.row.P.Denot). q.newest) c.index-rows-x.is) (ap (λ (q : Row g.row.P.Denot). q.older) c.index-rows-x.is)).0 ∙ c.unchain.ensures.newest;
+      older = (chains_kept mid x r s v.0 (ap (λ (q : Row g.row.P.Denot). q.newest) c.index-rows-x.is) (ap (λ (q : Row g.row.P.Denot). q.older) c.index-rows-x.is)).1 ∙ c.unchain.ensures.older;
+      left = ap (λ l. l.vacated) c.lower.ensures;
     }

@@ -1,0 +1,31 @@
+-- Where a row is looked for first: the entries with one home are chained through the rows. No promise rests on what chains say.
+use Rattle.std.specs.Prelude.{ℕ, zero, suc, ◌*◌, ◌/◌, ◌%◌, ◌^◌, if◌then◌else◌, List, map, length, Some, None, Option, ◌==◌, nat_lt, slice_index, slice_set}
+use Rattle.timer_rows.specs.declared.row.Row.{Row}
+
+-- the newest entry of each home, and the next older entry beside each one
+abbrev pub newests : {P : Type 0} → List (Row P) → List ℕ
+newests rows = map (λ r. r.newest) rows
+
+abbrev pub olders : {P : Type 0} → List (Row P) → List ℕ
+olders rows = map (λ r. r.older) rows
+
+-- the home of a ticket among n rows
+abbrev pub home_of : ℕ → ℕ → ℕ
+home_of n t = (t * 2654435769) % 2 ^ 32 * n / 2 ^ 32
+
+-- the first row whose key is t among the first k of a chain from a node on
+unfoldable pub along : ℕ → List ℕ → List ℕ → ℕ → ℕ → Option ℕ
+along zero ks os node t = None
+along (suc k) ks os node t =
+    if nat_lt node (length ks) then (if slice_index ks node == t then Some node else along k ks os (slice_index os node) t) else None
+
+-- the older links once the row x is out of the chain of a home
+abbrev pub passed : Option ℕ → List ℕ → ℕ → List ℕ
+passed None os x = os
+passed (Some node) os x = slice_set os node (slice_index os x)
+
+abbrev pub newests_without : List ℕ → List ℕ → ℕ → ℕ → List ℕ
+newests_without ns os h x = if slice_index ns h == x then slice_set ns h (slice_index os x) else ns
+
+abbrev pub olders_without : List ℕ → List ℕ → ℕ → ℕ → List ℕ
+olders_without ns os h x = if slice_index ns h == x then os else passed (along 64 os os (slice_index ns h) x) os x
