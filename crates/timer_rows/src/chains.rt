@@ -8,7 +8,7 @@ use crate::row::Row;
 // A chain only says where to look first: what is found there is believed once its ticket has been read. So no fact is kept about
 // chains, and where one leads nowhere, all rows are searched.
 
-// How many rows of a chain are looked at: in a full store of 4,096 rows the longest chain has some eight.
+// How many rows of a chain are looked at. Where entries come and go at random in a full store of 4,096 rows, hardly a chain has more than five.
 const MOST: usize = 64;
 
 /// The home of a ticket: the part of all rows that the ticket's multiple of the golden section is past a whole number.
