@@ -1,4 +1,4 @@
-ghost use Rattle.std.specs.Prelude.{◌∷◌};
+ghost use Rattle.std.specs.Prelude.{◌≡◌, ◌∷◌};
 
 use timer::expired::Expired;
 use timer::fault::TimerFault;
@@ -13,7 +13,10 @@ pub struct Called<'s, S> {
 
 impl<'s, S> Called<'s, S> {
     /// A layer over the store below.
-    pub fn new(inner: &'s mut S) -> Called<'s, S> {
+    pub fn new(inner: &'s mut S) -> Called<'s, S>
+        ensures value { result.inner.now ≡ inner.old }
+        ensures lender { result.inner.ghost_name ≡ inner.entry.ghost_name }
+    {
         Called { inner }
     }
 }

@@ -46,29 +46,29 @@ fn over<O: Order<u32> + Drop>(heap: Global, workload: Workload) -> Result<u64, A
 
 // The payload of stores whose calls stay calls. For a type of its own the compiler makes functions of the store of their own, and leaves those of the other stores as they are.
 #[derive(Clone, Copy)]
-struct Payload {
+struct Numbered {
     number: u32,
 }
 
-impl From<u32> for Payload {
-    fn from(number: u32) -> Payload {
-        Payload { number }
+impl From<u32> for Numbered {
+    fn from(number: u32) -> Numbered {
+        Numbered { number }
     }
 }
 
-impl From<Payload> for u32 {
-    fn from(payload: Payload) -> u32 {
+impl From<Numbered> for u32 {
+    fn from(payload: Numbered) -> u32 {
         payload.number
     }
 }
 
 // The same, with calls of the store that stay calls.
-fn over_called<O: Order<Payload> + Drop>(
+fn over_called<O: Order<Numbered> + Drop>(
     heap: Global,
     workload: Workload,
 ) -> Result<u64, AllocError> {
-    let mut rows = vec![in heap; Row::vacant(Payload { number: 0 }); ROWS]?;
-    let mut store = RowStore::<Payload, O>::new(&mut rows, 0, LAST_TICK);
+    let mut rows = vec![in heap; Row::vacant(Numbered { number: 0 }); ROWS]?;
+    let mut store = RowStore::<Numbered, O>::new(&mut rows, 0, LAST_TICK);
     workload.run(heap, &mut Called::new(&mut store))
 }
 
