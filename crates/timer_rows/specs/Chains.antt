@@ -1,4 +1,4 @@
--- Where a row is looked for first: the entries with one home are chained through the rows. No promise rests on what chains say.
+-- Where a row is looked for first: the entries with one home are chained through the rows. What a store answers does not rest on chains.
 use Rattle.std.specs.Prelude.{ℕ, zero, suc, ◌*◌, ◌/◌, ◌%◌, ◌^◌, if◌then◌else◌, List, map, length, Some, None, Option, ◌==◌, nat_lt, slice_index, slice_set}
 use Rattle.timer_rows.specs.declared.row.Row.{Row}
 
@@ -19,11 +19,12 @@ along zero ks os node t = None
 along (suc k) ks os node t =
     if nat_lt node (length ks) then (if slice_index ks node == t then Some node else along k ks os (slice_index os node) t) else None
 
--- the older links once the row x is out of the chain of a home
+-- the older links once the node before x, where there is one, leads past it
 abbrev pub passed : Option ℕ → List ℕ → ℕ → List ℕ
 passed None os x = os
 passed (Some node) os x = slice_set os node (slice_index os x)
 
+-- the newest entries, and the older links, once the row x is out of the chain of the home h
 abbrev pub newests_without : List ℕ → List ℕ → ℕ → ℕ → List ℕ
 newests_without ns os h x = if slice_index ns h == x then slice_set ns h (slice_index os x) else ns
 
