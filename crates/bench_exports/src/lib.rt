@@ -45,6 +45,25 @@ pub extern "C" fn bench_start_stop(heap: Global, store: u32, pending: u32, opera
     stores::run(heap, Kind::numbered(store), workload).unwrap_or(u64::MAX)
 }
 
+/// Stops some timers and then starts as many, so many times, in a store of so many rows, at most 4,096; it sums the tickets.
+#[unsafe(no_mangle)]
+pub extern "C" fn bench_bursts(
+    heap: Global,
+    store: u32,
+    rows: u32,
+    pending: u32,
+    burst: u32,
+    bursts: u64,
+) -> u64 {
+    let workload = Workload::Bursts {
+        rows,
+        pending,
+        burst,
+        bursts,
+    };
+    stores::run(heap, Kind::numbered(store), workload).unwrap_or(u64::MAX)
+}
+
 /// Makes so many steps of a rig that is kept busy on 64 channels; here 3 and 4 are simply the wheel and the heap.
 #[unsafe(no_mangle)]
 pub extern "C" fn bench_rig(heap: Global, store: u32, steps: u64) -> u64 {

@@ -4,12 +4,10 @@ use channel::record::{Attempt, Channel};
 use link::packet::Packet;
 use std::alloc::{AllocError, Global};
 use timer::store::Store;
-use timer_heap::heap::HeapOrder;
-use timer_list::list::ListOrder;
-use timer_order::order::Order;
-use timer_order::row_store::RowStore;
+use timer_heap::heap;
+use timer_list::list;
 use timer_rows::row::Row;
-use timer_wheel::wheel::{LAST_TICK, WheelOrder};
+use timer_wheel::wheel::{self, LAST_TICK};
 use trace::action::{Action, Segment};
 use trace::fault::RigFault;
 use transport::rig::{CHANNELS, Draft, Running};
@@ -196,40 +194,50 @@ fn drive<W: Store<Packet>, R: Store<Attempt>, K: Store<u8>>(
     sum
 }
 
-// The sum of a rig over stores in an order, or 0 where it cannot begin.
-fn over<O: Order<Packet> + Order<Attempt> + Order<u8> + Drop>(
-    heap: Global,
+// The sum of a rig over three stores, or 0 where it cannot begin.
+fn over<W: Store<Packet>, R: Store<Attempt>, K: Store<u8>>(
+    memory: Global,
     steps: u64,
+    wire: &mut W,
+    resend: &mut R,
+    keepalive: &mut K,
 ) -> Result<u64, AllocError> {
-    let mut wire_rows = vec![in heap; Row::vacant(PACKET); ROWS]?;
-    let mut resend_rows = vec![in heap; Row::vacant(ATTEMPT); ROWS]?;
-    let mut keepalive_rows = vec![in heap; Row::vacant(0); CHANNELS]?;
-    let mut fates = vec![in heap; 0; FATES]?;
-    let mut wire = RowStore::<Packet, O>::new(&mut wire_rows, 0, LAST_TICK);
-    let mut resend = RowStore::<Attempt, O>::new(&mut resend_rows, 0, LAST_TICK);
-    let mut keepalive = RowStore::<u8, O>::new(&mut keepalive_rows, 0, LAST_TICK);
+    let mut fates = vec![in memory; 0; FATES]?;
     let mut table = [Channel::unused(); CHANNELS];
     let draft = drafted(&mut fates);
-    let Ok(running) = draft.begin(&wire, &resend, &keepalive, &mut table) else {
+    let Ok(running) = draft.begin(wire, resend, keepalive, &mut table) else {
         return Ok(0);
     };
-    let sum = drive(
-        running,
-        &mut wire,
-        &mut resend,
-        &mut keepalive,
-        &mut table,
-        &fates,
-        steps,
-    );
+    let sum = drive(running, wire, resend, keepalive, &mut table, &fates, steps);
     Ok(sum.total)
 }
 
 /// The sum of so many steps of a rig over stores of a kind; no call is kept a call here.
-pub fn run(heap: Global, kind: Kind, steps: u64) -> Result<u64, AllocError> {
+pub fn run(memory: Global, kind: Kind, steps: u64) -> Result<u64, AllocError> {
+    let mut wire_rows = vec![in memory; Row::vacant(PACKET); ROWS]?;
+    let mut resend_rows = vec![in memory; Row::vacant(ATTEMPT); ROWS]?;
+    let mut keepalive_rows = vec![in memory; Row::vacant(0); CHANNELS]?;
     match kind {
-        Kind::Wheel | Kind::CalledWheel => over::<WheelOrder>(heap, steps),
-        Kind::Heap | Kind::CalledHeap => over::<HeapOrder>(heap, steps),
-        Kind::List => over::<ListOrder>(heap, steps),
+        Kind::Wheel | Kind::CalledWheel => over(
+            memory,
+            steps,
+            &mut wheel::over(&mut wire_rows, 0),
+            &mut wheel::over(&mut resend_rows, 0),
+            &mut wheel::over(&mut keepalive_rows, 0),
+        ),
+        Kind::Heap | Kind::CalledHeap => over(
+            memory,
+            steps,
+            &mut heap::over(&mut wire_rows, 0, LAST_TICK),
+            &mut heap::over(&mut resend_rows, 0, LAST_TICK),
+            &mut heap::over(&mut keepalive_rows, 0, LAST_TICK),
+        ),
+        Kind::List => over(
+            memory,
+            steps,
+            &mut list::over(&mut wire_rows, 0, LAST_TICK),
+            &mut list::over(&mut resend_rows, 0, LAST_TICK),
+            &mut list::over(&mut keepalive_rows, 0, LAST_TICK),
+        ),
     }
 }

@@ -1,14 +1,10 @@
 use crate::called::Called;
 use crate::workloads::Workload;
 use std::alloc::{AllocError, Global};
-use timer_heap::heap::HeapOrder;
-use timer_list::list::ListOrder;
-use timer_order::order::Order;
-use timer_order::row_store::RowStore;
+use timer_heap::heap;
+use timer_list::list;
 use timer_rows::row::Row;
-use timer_wheel::wheel::{LAST_TICK, WheelOrder};
-
-const ROWS: usize = 4_096;
+use timer_wheel::wheel::{self, LAST_TICK};
 
 /// A kind of timer store.
 #[derive(Clone, Copy)]
@@ -38,12 +34,6 @@ impl Kind {
     }
 }
 
-fn over<O: Order<u32> + Drop>(heap: Global, workload: Workload) -> Result<u64, AllocError> {
-    let mut rows = vec![in heap; Row::vacant(0); ROWS]?;
-    let mut store = RowStore::<u32, O>::new(&mut rows, 0, LAST_TICK);
-    workload.run(heap, &mut store)
-}
-
 // The payload of stores whose calls stay calls. For a type of its own the compiler makes functions of the store of their own, and leaves those of the other stores as they are.
 #[derive(Clone, Copy)]
 struct Numbered {
@@ -62,23 +52,38 @@ impl From<Numbered> for u32 {
     }
 }
 
-// The same, with calls of the store that stay calls.
-fn over_called<O: Order<Numbered> + Drop>(
-    heap: Global,
+// As many vacant rows as a workload needs.
+fn vacant<P: Copy + From<u32>>(
+    memory: Global,
     workload: Workload,
-) -> Result<u64, AllocError> {
-    let mut rows = vec![in heap; Row::vacant(Numbered { number: 0 }); ROWS]?;
-    let mut store = RowStore::<Numbered, O>::new(&mut rows, 0, LAST_TICK);
-    workload.run(heap, &mut Called::new(&mut store))
+) -> Result<Vec<Row<P>>, AllocError> {
+    vec![in memory; Row::vacant(P::from(0)); workload.rows()]
 }
 
-/// The sum of a workload over a store of a kind, which has 4,096 rows and begins at tick 0.
-pub fn run(heap: Global, kind: Kind, workload: Workload) -> Result<u64, AllocError> {
+/// The sum of a workload over a store of a kind, which begins at tick 0.
+pub fn run(memory: Global, kind: Kind, workload: Workload) -> Result<u64, AllocError> {
     match kind {
-        Kind::Wheel => over::<WheelOrder>(heap, workload),
-        Kind::Heap => over::<HeapOrder>(heap, workload),
-        Kind::List => over::<ListOrder>(heap, workload),
-        Kind::CalledWheel => over_called::<WheelOrder>(heap, workload),
-        Kind::CalledHeap => over_called::<HeapOrder>(heap, workload),
+        Kind::Wheel => {
+            let mut rows = vacant::<u32>(memory, workload)?;
+            workload.run(memory, &mut wheel::over(&mut rows, 0))
+        }
+        Kind::Heap => {
+            let mut rows = vacant::<u32>(memory, workload)?;
+            workload.run(memory, &mut heap::over(&mut rows, 0, LAST_TICK))
+        }
+        Kind::List => {
+            let mut rows = vacant::<u32>(memory, workload)?;
+            workload.run(memory, &mut list::over(&mut rows, 0, LAST_TICK))
+        }
+        Kind::CalledWheel => {
+            let mut rows = vacant::<Numbered>(memory, workload)?;
+            let mut store = wheel::over(&mut rows, 0);
+            workload.run(memory, &mut Called::new(&mut store))
+        }
+        Kind::CalledHeap => {
+            let mut rows = vacant::<Numbered>(memory, workload)?;
+            let mut store = heap::over(&mut rows, 0, LAST_TICK);
+            workload.run(memory, &mut Called::new(&mut store))
+        }
     }
 }

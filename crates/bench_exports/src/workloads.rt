@@ -5,6 +5,9 @@ use timer::store::Store;
 
 const OWNERS: u32 = 64;
 
+// How many rows a store has where a workload does not say it.
+const ROWS: usize = 4_096;
+
 // The most entries that can be due at once.
 const MOST_DUE: u32 = 4_096;
 
@@ -53,9 +56,35 @@ pub enum Workload {
         /// How many are stopped and started anew.
         operations: u64,
     },
+    /// Some timers are stopped one after the other, and as many are started, again and again; no tick passes.
+    Bursts {
+        /// How many rows the store has.
+        rows: u32,
+        /// How many are pending before and after a burst.
+        pending: u32,
+        /// How many of them are stopped, and then started, in a burst.
+        burst: u32,
+        /// How many bursts.
+        bursts: u64,
+    },
+}
+
+// A timer that is stopped and started anew.
+#[derive(Clone, Copy)]
+struct Timer {
+    ticket: u32,
+    payload: u32,
 }
 
 impl Workload {
+    /// How many rows a store needs for it.
+    pub fn rows(self) -> usize {
+        match self {
+            Workload::Bursts { rows, .. } => rows as usize,
+            _ => ROWS,
+        }
+    }
+
     /// Does the work, and answers its sum.
     pub fn run<P: Payload, S: Store<P>>(
         self,
@@ -72,6 +101,19 @@ impl Workload {
             } => {
                 let mut tickets = vec![in heap; 0; pending as usize]?;
                 start_stop(store, &mut tickets, pending, operations)
+            }
+            Workload::Bursts {
+                pending,
+                burst,
+                bursts,
+                ..
+            } => {
+                let unstarted = Timer {
+                    ticket: 0,
+                    payload: 0,
+                };
+                let mut timers = vec![in heap; unstarted; pending as usize]?;
+                in_bursts(store, &mut timers, pending, burst, bursts)
             }
         };
         Ok(sum.total)
@@ -186,6 +228,12 @@ fn idle<P: Payload, S: Store<P>>(store: &mut S, ticks: u64) -> Sum {
     sum
 }
 
+// Starts a timer far ahead, and answers its ticket, or 0.
+fn start_far<P: Payload, S: Store<P>>(store: &mut S, random: &mut Random, payload: u32) -> u32 {
+    let ahead = random.below(1_000_000).wrapping_add(1_000_000);
+    start(store, ahead, payload)
+}
+
 fn start_stop<P: Payload, S: Store<P>>(
     store: &mut S,
     tickets: &mut [u32],
@@ -195,16 +243,52 @@ fn start_stop<P: Payload, S: Store<P>>(
     let mut random = Random::new();
     let mut sum = Sum::new();
     for (ticket, payload) in tickets.iter_mut().zip(0..pending) {
-        let ahead = random.below(1_000_000).wrapping_add(1_000_000);
-        *ticket = start(store, ahead, payload);
+        *ticket = start_far(store, &mut random, payload);
     }
     for _ in 0..operations {
         let payload = random.below(pending);
         if let Some(ticket) = tickets.get_mut(payload as usize) {
             let _ = store.stop(*ticket);
-            let ahead = random.below(1_000_000).wrapping_add(1_000_000);
-            *ticket = start(store, ahead, payload);
+            *ticket = start_far(store, &mut random, payload);
             sum.add(mix(*ticket, payload));
+        }
+    }
+    sum
+}
+
+// Lets two timers of a list change places, if it has both.
+fn swap(timers: &mut [Timer], a: usize, b: usize) {
+    if a < timers.len() && b < timers.len() {
+        timers.swap(a, b);
+    }
+}
+
+// Those that a burst stops come to the front of the list, and start anew there.
+fn in_bursts<P: Payload, S: Store<P>>(
+    store: &mut S,
+    timers: &mut [Timer],
+    pending: u32,
+    burst: u32,
+    bursts: u64,
+) -> Sum {
+    let mut random = Random::new();
+    let mut sum = Sum::new();
+    for (timer, payload) in timers.iter_mut().zip(0..pending) {
+        let ticket = start_far(store, &mut random, payload);
+        *timer = Timer { ticket, payload };
+    }
+    for _ in 0..bursts {
+        for i in 0..burst {
+            let others = random.below(pending.wrapping_sub(i));
+            let chosen = i.wrapping_add(others);
+            swap(timers, i as usize, chosen as usize);
+            if let Some(timer) = timers.get(i as usize) {
+                let _ = store.stop(timer.ticket);
+            }
+        }
+        for timer in timers.iter_mut().take(burst as usize) {
+            timer.ticket = start_far(store, &mut random, timer.payload);
+            sum.add(mix(timer.ticket, timer.payload));
         }
     }
     sum

@@ -1,5 +1,5 @@
 use crate::log::Log;
-use crate::over::over;
+use crate::over::{Made, over};
 use crate::scenario::Scenario;
 use crate::theirs;
 use channel::record::Attempt;
@@ -8,11 +8,10 @@ use std::alloc::{AllocError, Global};
 use tally::Tally;
 use timer_heap::heap::HeapOrder;
 use timer_list::list::ListOrder;
-use timer_order::order::Order;
 use timer_wheel::wheel::WheelOrder;
 
 // Compares what is seen over stores in an order with what is seen of the plain rig.
-fn against<O: Order<Packet> + Order<Attempt> + Order<u8> + Drop>(
+fn against<O: Made<Packet> + Made<Attempt> + Made<u8>>(
     heap: Global,
     scenario: &Scenario<'_>,
     plain: &Log,

@@ -1,6 +1,6 @@
 use std::alloc::{AllocError, Global};
 use timer::fault::TimerFault;
-use timer::store::Store;
+use timer::store::{Store, check_number};
 
 /// What is asked of a store after a call: about an owner, and about a start with a deadline.
 #[derive(Clone, Copy)]
@@ -62,7 +62,11 @@ impl Log {
     }
 
     /// Notes all that can be asked of a store.
-    pub fn store<P, S: Store<P>>(&mut self, store: &S, asked: Asked) -> Result<(), AllocError> {
+    pub fn store<P: Copy, S: Store<P>>(
+        &mut self,
+        store: &S,
+        asked: Asked,
+    ) -> Result<(), AllocError> {
         self.number(store.now())?;
         self.number(store.last())?;
         self.count(store.capacity())?;
@@ -71,6 +75,7 @@ impl Log {
         self.number(u32::from(store.due()))?;
         self.count(store.limit(asked.owner))?;
         self.count(store.count(asked.owner))?;
-        self.fault(store.check(asked.deadline, asked.owner))
+        let number = check_number(store, asked.deadline, asked.owner);
+        self.number(u32::from(number))
     }
 }

@@ -14,6 +14,7 @@ mod random;
 mod scenario;
 mod sessions;
 mod stores;
+mod structure;
 mod theirs;
 mod writer;
 
@@ -29,6 +30,11 @@ fn main(rt: HostRuntime) -> anyhow::Result<()> {
     let heap = rt.alloc();
     print(&rt, "stores at their edges", stores::compare_edges(heap)?)?;
     print(&rt, "random stores", stores::compare_random(heap)?)?;
+    print(
+        &rt,
+        "structures of stores",
+        structure::compare_structures(heap)?,
+    )?;
     print(&rt, "lines and buffers", writer::compare_lines(heap)?)?;
     print(&rt, "rigs at their edges", edges::compare_edges(heap)?)?;
     print(&rt, "random sessions", random_sessions(heap)?)?;

@@ -6,10 +6,13 @@ use link::packet::Packet;
 use std::alloc::{AllocError, Global};
 use timer::store::Store;
 use timer_aged::aged::Aged;
+use timer_heap::heap::{self, HeapOrder};
+use timer_list::list::{self, ListOrder};
 use timer_order::order::Order;
 use timer_order::row_store::RowStore;
 use timer_quota::quota::Quota;
 use timer_rows::row::Row;
+use timer_wheel::wheel::{self, WheelOrder};
 use trace::action::Segment;
 
 /// A packet for rows that are vacant.
@@ -25,13 +28,37 @@ pub const ATTEMPT: Attempt = Attempt {
     sent: 0,
 };
 
+/// An order of which stores of payloads `P` are made.
+pub trait Made<P: Copy>: Order<P> + Drop {
+    /// A store in this order, with nothing pending.
+    fn made(rows: &mut [Row<P>], first: u32, last: u32) -> RowStore<'_, P, Self>;
+}
+
+impl<P: Copy> Made<P> for WheelOrder {
+    fn made(rows: &mut [Row<P>], first: u32, _last: u32) -> RowStore<'_, P, Self> {
+        wheel::over(rows, first)
+    }
+}
+
+impl<P: Copy> Made<P> for ListOrder {
+    fn made(rows: &mut [Row<P>], first: u32, last: u32) -> RowStore<'_, P, Self> {
+        list::over(rows, first, last)
+    }
+}
+
+impl<P: Copy> Made<P> for HeapOrder {
+    fn made(rows: &mut [Row<P>], first: u32, last: u32) -> RowStore<'_, P, Self> {
+        heap::over(rows, first, last)
+    }
+}
+
 /// A store over rows, as it is to be lent.
-pub fn store<'a, P: Copy + Drop, O: Order<P> + Drop>(
+pub fn store<'a, P: Copy + Drop, O: Made<P>>(
     rows: &'a mut [Row<P>],
     setup: Setup,
     payload: P,
 ) -> RowStore<'a, P, O> {
-    let mut store = RowStore::<P, O>::new(rows, setup.first, setup.last);
+    let mut store = O::made(rows, setup.first, setup.last);
     if setup.before != Before::Nothing {
         let _ = store.start(setup.first.saturating_add(1), 0, payload);
     }
@@ -42,7 +69,7 @@ pub fn store<'a, P: Copy + Drop, O: Order<P> + Drop>(
 }
 
 /// What is seen of a scenario over stores in an order.
-pub fn over<O: Order<Packet> + Order<Attempt> + Order<u8> + Drop>(
+pub fn over<O: Made<Packet> + Made<Attempt> + Made<u8>>(
     heap: Global,
     scenario: &Scenario<'_>,
 ) -> Result<Log, AllocError> {

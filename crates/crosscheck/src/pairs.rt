@@ -1,7 +1,7 @@
 // Sessions on pairs of rigs, over stores in two orders.
 use crate::log::Log;
 use crate::notes::log_of;
-use crate::over::{ATTEMPT, PACKET, store};
+use crate::over::{ATTEMPT, Made, PACKET, store};
 use crate::scenario::{Layers, RECORDS, Scenario};
 use channel::record::{Attempt, Channel};
 use link::packet::Packet;
@@ -12,7 +12,6 @@ use session::command::Command;
 use std::alloc::{AllocError, Global};
 use timer::store::Store;
 use timer_aged::aged::Aged;
-use timer_order::order::Order;
 use timer_quota::quota::Quota;
 use timer_rows::row::Row;
 use transport::rig::Draft;
@@ -90,10 +89,11 @@ fn play<
 }
 
 /// Plays commands on two rigs of a scenario, the first over stores in the order `O` and the other over stores in the order `Q`.
-pub fn over<
-    O: Order<Packet> + Order<Attempt> + Order<u8> + Drop,
-    Q: Order<Packet> + Order<Attempt> + Order<u8> + Drop,
->(heap: Global, scenario: &Scenario<'_>, commands: &[Command]) -> Result<Pair, AllocError> {
+pub fn over<O: Made<Packet> + Made<Attempt> + Made<u8>, Q: Made<Packet> + Made<Attempt> + Made<u8>>(
+    heap: Global,
+    scenario: &Scenario<'_>,
+    commands: &[Command],
+) -> Result<Pair, AllocError> {
     let setups = scenario.setups;
     let mut wire_rows = vec![in heap; Row::vacant(PACKET); setups.wire.rows]?;
     let mut resend_rows = vec![in heap; Row::vacant(ATTEMPT); setups.resend.rows]?;

@@ -4,6 +4,7 @@ use crate::commands::{call, call_and_ask, commands_of};
 use crate::compare::compare;
 use crate::generate::generate;
 use crate::log::Log;
+use crate::over::Made;
 use crate::pairs::{over, seen};
 use crate::plain::play;
 use crate::scenario::{Act, Before, LAST, Layers, Scenario, Setup, Setups};
@@ -15,14 +16,10 @@ use std::alloc::{AllocError, Global};
 use tally::Tally;
 use timer_heap::heap::HeapOrder;
 use timer_list::list::ListOrder;
-use timer_order::order::Order;
 use timer_wheel::wheel::WheelOrder;
 
 // Compares what both rigs of a pair come to, over stores in two orders, with what the plain rig came to.
-fn against<
-    O: Order<Packet> + Order<Attempt> + Order<u8> + Drop,
-    Q: Order<Packet> + Order<Attempt> + Order<u8> + Drop,
->(
+fn against<O: Made<Packet> + Made<Attempt> + Made<u8>, Q: Made<Packet> + Made<Attempt> + Made<u8>>(
     heap: Global,
     scenario: &Scenario<'_>,
     commands: &[Command],

@@ -7,16 +7,14 @@ use reference::store::PlainStore;
 use std::alloc::{AllocError, Global};
 use tally::Tally;
 use timer::call::{Answer, Call};
-use timer::history::perform;
+use timer::history::{perform, play};
 use timer::store::Store;
 use timer_aged::aged::Aged;
-use timer_heap::heap::HeapOrder;
-use timer_list::list::ListOrder;
-use timer_order::order::Order;
-use timer_order::row_store::RowStore;
+use timer_heap::heap;
+use timer_list::list;
 use timer_quota::quota::Quota;
 use timer_rows::row::Row;
-use timer_wheel::wheel::WheelOrder;
+use timer_wheel::wheel;
 
 // How many stores are made up.
 const STORES: u64 = 600;
@@ -28,6 +26,14 @@ enum Act {
     Call(Call<u32>),
     // So many turns, in each of which a due entry is taken or the tick goes on.
     Turns(u32),
+}
+
+// The kinds of stores.
+#[derive(Clone, Copy)]
+enum Kind {
+    Wheel,
+    List,
+    Heap,
 }
 
 // A store, and what is done to it.
@@ -73,12 +79,28 @@ fn asked(act: Act, now: u32) -> Asked {
     }
 }
 
-// What is seen of a store.
-fn ours<S: Store<u32>>(heap: Global, store: &mut S, acts: &[Act]) -> Result<Log, AllocError> {
+// Makes a call and notes it among the calls that were made.
+fn make<S: Store<u32>>(
+    store: &mut S,
+    call: Call<u32>,
+    calls: &mut Vec<Call<u32>>,
+) -> Result<Answer<u32>, AllocError> {
+    calls.push(call)?;
+    Ok(perform(store, call))
+}
+
+// What is seen of a store, and at the end of another store that was made alike, to which the same calls are made in one go.
+fn ours<S: Store<u32>, T: Store<u32>>(
+    heap: Global,
+    store: &mut S,
+    other: &mut T,
+    acts: &[Act],
+) -> Result<Log, AllocError> {
     let mut log = Log::new(heap);
+    let mut calls = Vec::new(heap);
     for act in acts.iter() {
         match *act {
-            Act::Call(call) => note_answer(&mut log, perform(store, call))?,
+            Act::Call(call) => note_answer(&mut log, make(store, call, &mut calls)?)?,
             Act::Turns(count) => {
                 for _ in 0..count {
                     let call = if store.due() {
@@ -86,7 +108,7 @@ fn ours<S: Store<u32>>(heap: Global, store: &mut S, acts: &[Act]) -> Result<Log,
                     } else {
                         Call::Advance
                     };
-                    let answer = perform(store, call);
+                    let answer = make(store, call, &mut calls)?;
                     if let Answer::Advance(Ok(())) = answer {
                         continue;
                     }
@@ -97,6 +119,8 @@ fn ours<S: Store<u32>>(heap: Global, store: &mut S, acts: &[Act]) -> Result<Log,
         }
         log.store(store, asked(*act, store.now()))?;
     }
+    play(other, &calls);
+    log.store(other, asked(Act::Turns(0), other.now()))?;
     Ok(log)
 }
 
@@ -126,57 +150,90 @@ fn theirs(heap: Global, case: Case<'_>) -> Result<Log, AllocError> {
         }
         note_store(&mut log, &store, asked(*act, store.now()))?;
     }
+    note_store(&mut log, &store, asked(Act::Turns(0), store.now()))?;
     Ok(log)
 }
 
-// What is seen of a store, under a quota or as it is.
-fn seen<S: Store<u32>>(
+// What is seen of two stores that were made alike, under a quota or as they are.
+fn seen<S: Store<u32>, T: Store<u32>>(
     heap: Global,
     store: &mut S,
+    other: &mut T,
     case: Case<'_>,
     limited: bool,
 ) -> Result<Log, AllocError> {
     if limited {
-        ours(heap, &mut Quota::new(store, [case.number; 64]), case.acts)
+        ours(
+            heap,
+            &mut Quota::new(store, [case.number; 64]),
+            &mut Quota::new(other, [case.number; 64]),
+            case.acts,
+        )
     } else {
-        ours(heap, store, case.acts)
+        ours(heap, store, other, case.acts)
     }
 }
 
-// What is seen of a store in an order, which is aged where tickets were given before.
-fn over<O: Order<u32> + Drop>(
+// The same, aged where tickets were given before.
+fn aged<S: Store<u32>, T: Store<u32>>(
     heap: Global,
+    store: &mut S,
+    other: &mut T,
     case: Case<'_>,
     limited: bool,
 ) -> Result<Log, AllocError> {
-    let mut rows = vec![in heap; Row::vacant(0); case.rows]?;
-    let mut store = RowStore::<u32, O>::new(&mut rows, case.first, LAST);
     if case.given == 0 {
-        seen(heap, &mut store, case, limited)
+        seen(heap, store, other, case, limited)
     } else {
-        seen(heap, &mut Aged::new(&mut store, case.given), case, limited)
+        seen(
+            heap,
+            &mut Aged::new(store, case.given),
+            &mut Aged::new(other, case.given),
+            case,
+            limited,
+        )
     }
 }
 
-// Compares a store in an order with the plain one, under a quota, and as it is where the quota allows all.
-fn against<O: Order<u32> + Drop>(
-    heap: Global,
-    case: Case<'_>,
-    plain: &Log,
-    tally: &mut Tally,
-) -> Result<(), AllocError> {
-    tally.compare(over::<O>(heap, case, true)?.numbers(), plain.numbers());
-    if usize::from(case.number) >= case.rows {
-        tally.compare(over::<O>(heap, case, false)?.numbers(), plain.numbers());
+// What is seen of stores of a kind.
+fn over(memory: Global, kind: Kind, case: Case<'_>, limited: bool) -> Result<Log, AllocError> {
+    let mut rows = vec![in memory; Row::vacant(0); case.rows]?;
+    let mut other_rows = vec![in memory; Row::vacant(0); case.rows]?;
+    match kind {
+        Kind::Wheel => aged(
+            memory,
+            &mut wheel::over(&mut rows, case.first),
+            &mut wheel::over(&mut other_rows, case.first),
+            case,
+            limited,
+        ),
+        Kind::List => aged(
+            memory,
+            &mut list::over(&mut rows, case.first, LAST),
+            &mut list::over(&mut other_rows, case.first, LAST),
+            case,
+            limited,
+        ),
+        Kind::Heap => aged(
+            memory,
+            &mut heap::over(&mut rows, case.first, LAST),
+            &mut heap::over(&mut other_rows, case.first, LAST),
+            case,
+            limited,
+        ),
     }
-    Ok(())
 }
 
+// Compares stores of each kind with the plain one, under a quota, and as they are where the quota allows all.
 fn compare(heap: Global, case: Case<'_>, tally: &mut Tally) -> Result<(), AllocError> {
     let plain = theirs(heap, case)?;
-    against::<WheelOrder>(heap, case, &plain, tally)?;
-    against::<ListOrder>(heap, case, &plain, tally)?;
-    against::<HeapOrder>(heap, case, &plain, tally)
+    for kind in [Kind::Wheel, Kind::List, Kind::Heap] {
+        tally.compare(over(heap, kind, case, true)?.numbers(), plain.numbers());
+        if usize::from(case.number) >= case.rows {
+            tally.compare(over(heap, kind, case, false)?.numbers(), plain.numbers());
+        }
+    }
+    Ok(())
 }
 
 fn start(deadline: u32, owner: u8) -> Act {

@@ -138,6 +138,8 @@ pub fn tell_alike<S: Store<u32>, T: Store<u32>>(
 ) -> Result<bool, AllocError>
     ensures same { IfOk result (λ same. IsTrue same ↔ (told (S.meaning one.old) calls.now budget ≡ told (T.meaning other.old) calls.now budget)) }
     ensures alike { IfOk result (λ same. S.meaning one.old ≡ T.meaning other.old → IsTrue same) }
+    ensures framed { Framed S.Store one.old one.new }
+    ensures other_framed { Framed T.Store other.old other.new }
 {
     let notes = tell(one, calls, budget, heap)?;
     let others = tell(other, calls, budget, heap)?;

@@ -1,7 +1,7 @@
 -- What a session begins with.
 use Rattle.std.specs.Prelude.{◌≡◌, ℕ, ◌+◌, ◌-◌, ◌≤◌, Bool, true, false, not, ◌&&◌, ◌||◌, length, Some, None, Option, ◌==◌, nat_le, nat_lt}
 use Rattle.timer.specs.History.{Fresh}
-use Rattle.timer.specs.Meaning.{Meaning}
+use Rattle.timer.specs.Meaning.{Meaning, Sound}
 use Rattle.trace.specs.declared.fault.RigFault.{RigFault}
 use Rattle.trace.specs.declared.fault.RigFault.TheVariants.{Setting, Clocks, Used, Span, Table}
 use Rattle.protocol.specs.State.{State, fresh_table}
@@ -41,6 +41,12 @@ pub record Together {P Q : Type 0} (m : Meaning P) (n : Meaning Q) : Type 0 wher
   pub tick : n.now ≡ m.now
   pub last : n.last ≡ m.last
 
+-- what the three stores mean is sound
+pub record AllSound (s : State) : Type 0 where
+  pub wire : Sound s.wire
+  pub resend : Sound s.resend
+  pub keepalive : Sound s.keepalive
+
 -- a state in which a session begins
 pub record Begun (s : State) : Type 0 where
   pub table : s.table ≡ fresh_table
@@ -53,4 +59,4 @@ pub record Begun (s : State) : Type 0 where
   pub resend_clock : Together s.wire s.resend
   pub keepalive_clock : Together s.wire s.keepalive
   pub span : s.wire.now + 60000 ≤ s.wire.last
-  pub fits : s.wire.last ≤ 4294967295
+  pub sound : AllSound s

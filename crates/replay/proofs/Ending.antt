@@ -1,8 +1,11 @@
 -- From a draft to the end of its session.
-use Rattle.std.proofs.Common.{◌≡◌, ℕ, ◌≤◌, Bool, true, List, [], length, take, None, vec_items, sym, ap, ◌∙◌, subst}
+use Rattle.std.proofs.Common.{◌≡◌, ℕ, Bool, true, List, [], length, take, None, vec_items, sym, ap, ◌∙◌, subst}
+use Rattle.timer.specs.declared.store.Store.{Ghosts}
+use Rattle.link.specs.declared.packet.Packet.{Packet}
+use Rattle.channel.specs.declared.record.Attempt.{Attempt}
 use Rattle.channel.specs.declared.record.Channel.{Channel}
 use Rattle.protocol.specs.State.{State, tick_of, fresh_table}
-use Rattle.protocol.specs.Begin.{Begun}
+use Rattle.protocol.specs.Begin.{AllSound, Begun}
 use Rattle.timers_law.specs.Ready.{Ready}
 use Rattle.timers_law.proofs.Begins.{begins}
 use Rattle.timers_law.proofs.Ready.{begun_ready}
@@ -17,9 +20,15 @@ use Rattle.session.specs.Run.{calls_of, notes_of, ends}
 use Rattle.session.specs.Text.{session_text}
 use Rattle.session.proofs.Runs.{laws}
 use Rattle.replay.specs.declared.outcome.Session.{Session}
-use Rattle.replay.specs.Lent.{Held}
+use Rattle.replay.specs.declared.lent.Lent.{Lent}
+use Rattle.replay.specs.Lent.{Held, held}
 use Rattle.replay.specs.Outcome.{first_state, refusal, Holds, Played, Broken}
 use Rattle.replay.proofs.Commands.{all_made}
+
+-- a draft begins over sound stores
+pub first_sound : {W R K : Type 0} (w : Ghosts W Packet) (r : Ghosts R Attempt) (k : Ghosts K ℕ) (d : Draft) (l : Lent W R K) → AllSound (first_state d (held w r k l))
+first_sound w r k d l =
+    record { wire = w.sound l.wire.now; resend = r.sound l.resend.now; keepalive = k.sound l.keepalive.now }
 
 module _ (d : Draft) (l : Held) (rig : Running) (t : List Channel) (is : rig ≡ started d) (clear : take 64 t ≡ fresh_table) where
   -- the rig begins in the first state
@@ -28,9 +37,9 @@ module _ (d : Draft) (l : Held) (rig : Running) (t : List Channel) (is : rig ≡
       ap (λ (x : Running). state_of x l.fates l.wire l.resend l.keepalive (take 64 t)) is
       ∙ ap (λ (x : List Channel). state_of (started d) l.fates l.wire l.resend l.keepalive x) clear
 
-  module _ (none : refusal d l ≡ None) (fits : l.wire.last ≤ 4294967295) where
+  module _ (none : refusal d l ≡ None) (sound : AllSound (first_state d l)) where
     pub first_begun : Begun (first_state d l)
-    first_begun = begins d.delay d.interval (fates_of l.fates d.fates d.delay) l.wire l.resend l.keepalive (length l.table) none fits
+    first_begun = begins d.delay d.interval (fates_of l.fates d.fates d.delay) l.wire l.resend l.keepalive (length l.table) none sound
 
     pub first_ready : Ready (state_of rig l.fates l.wire l.resend l.keepalive (take 64 t))
     first_ready = subst (λ (s : State). Ready s) (sym begun_state) (begun_ready (first_state d l) first_begun)

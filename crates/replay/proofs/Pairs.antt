@@ -3,7 +3,7 @@ use Rattle.std.proofs.Common.{◌≡◌, ℕ, ◌<◌, Bool, cond, List, length,
 use mathlib.Core.Path.{fun_ext}
 use Rattle.std.proofs.lemmas.List.{same_lists, get_or_default}
 use Rattle.timer.specs.History.{Fresh}
-use Rattle.timer.specs.Meaning.{Meaning}
+use Rattle.timer.specs.Meaning.{Meaning, Sound}
 use Rattle.timer.specs.Rules.{limit_rule}
 use Rattle.protocol.specs.State.{State, tick_of, begun}
 use Rattle.protocol.specs.Begin.{Begun}
@@ -28,25 +28,19 @@ same_limits m n h p q =
     let b : k < length n.limits = omega (arith, q, a) in
     get_or_default m.limits k d 0 l ∙ sym (limit_at m k a) ∙ h.limits k ∙ limit_at n k a ∙ get_or_default n.limits k 0 d b)
 
-same_store : {P : Type 0} (m n : Meaning P) → Same m n → Fresh m → Fresh n → length m.limits ≡ 64 → length n.limits ≡ 64 → m ≡ n
+same_store : {P : Type 0} (m n : Meaning P) → Same m n → Fresh m → Fresh n → Sound m → Sound n → m ≡ n
 same_store m n h f g p q =
-    let limits : m.limits ≡ n.limits = same_limits m n h p q in
+    let limits : m.limits ≡ n.limits = same_limits m n h p.limited q.limited in
     let given : m.given ≡ n.given = f.untouched ∙ sym g.untouched in
     let pending : m.pending ≡ n.pending = f.empty ∙ sym g.empty in
     λ i. record { now = h.now i; last = h.last i; capacity = h.capacity i; limits = limits i; given = given i; pending = pending i }
 
--- what every store has
-pub record Sized (l : Held) : Type 0 where
-  pub wire : length l.wire.limits ≡ 64
-  pub resend : length l.resend.limits ≡ 64
-  pub keepalive : length l.keepalive.limits ≡ 64
-
-same_state : (d e : Draft) (l m : Held) → Alike d e l m → Sized l → Sized m → Begun (first_state d l) → Begun (first_state e m) → first_state d l ≡ first_state e m
-same_state d e l m a p q b c =
+same_state : (d e : Draft) (l m : Held) → Alike d e l m → Begun (first_state d l) → Begun (first_state e m) → first_state d l ≡ first_state e m
+same_state d e l m a b c =
     let fate = fun_ext a.fates in
-    let wire = same_store l.wire m.wire a.wire b.wire c.wire p.wire q.wire in
-    let resend = same_store l.resend m.resend a.resend b.resend c.resend p.resend q.resend in
-    let keepalive = same_store l.keepalive m.keepalive a.keepalive b.keepalive c.keepalive p.keepalive q.keepalive in
+    let wire = same_store l.wire m.wire a.wire b.wire c.wire b.sound.wire c.sound.wire in
+    let resend = same_store l.resend m.resend a.resend b.resend c.resend b.sound.resend c.sound.resend in
+    let keepalive = same_store l.keepalive m.keepalive a.keepalive b.keepalive c.keepalive b.sound.keepalive c.sound.keepalive in
     λ i. begun (a.interval i) (fate i) (wire i) (resend i) (keepalive i)
 
 -- sessions from the same state are the same
@@ -63,10 +57,10 @@ same_session s t xs a b l m e p q =
           ∙ sym q.text;
     }
 
-pub indistinguishable : (d e : Draft) (commands : List Command) (l m : Held) (r o : Result Session Stopped) (n h : Held) → Sized l → Sized m → Outcome d commands l r n → Outcome e commands m o h → Alike d e l m → Both r o
-indistinguishable d e commands l m (Ok a) (Ok b) n h u v p q s =
+pub indistinguishable : (d e : Draft) (commands : List Command) (l m : Held) (r o : Result Session Stopped) (n h : Held) → Outcome d commands l r n → Outcome e commands m o h → Alike d e l m → Both r o
+indistinguishable d e commands l m (Ok a) (Ok b) n h p q s =
     same_session (first_state d l) (first_state e m) commands a b n h
-    (same_state d e l m s u v p.1.begins q.1.begins) p.1 q.1
-indistinguishable d e commands l m (Ok a) (Err f) n h u v p q s = tt
-indistinguishable d e commands l m (Err f) (Ok b) n h u v p q s = tt
-indistinguishable d e commands l m (Err f) (Err g) n h u v p q s = tt
+    (same_state d e l m s p.1.begins q.1.begins) p.1 q.1
+indistinguishable d e commands l m (Ok a) (Err f) n h p q s = tt
+indistinguishable d e commands l m (Err f) (Ok b) n h p q s = tt
+indistinguishable d e commands l m (Err f) (Err g) n h p q s = tt

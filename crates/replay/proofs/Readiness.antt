@@ -1,10 +1,10 @@
 -- A call leaves the rig ready for the next one.
-use Rattle.std.proofs.Common.{ℕ, ◌+◌, ◌<◌, ◌≤◌, List, [], ◌∷◌, length, slice_index, sym, subst}
+use Rattle.std.proofs.Common.{◌≡◌, ℕ, ◌+◌, ◌<◌, ◌≤◌, List, [], ◌∷◌, length, slice_index, sym, subst}
 use Rattle.std.specs.List.{AllByRecursion}
 use Rattle.std.specs.Coded.{×_prop, Unit-prop}
 use Rattle.std.proofs.Props.{props}
 use mathlib.Core.Logic.{∥∥₁_elim}
-use Rattle.timer.specs.Meaning.{Entry, Meaning, Rising}
+use Rattle.timer.specs.Meaning.{Entry, Meaning, Rising, Sound}
 use Rattle.timer.specs.Rules.{count}
 use Rattle.protocol.specs.State.{State}
 use Rattle.protocol.specs.Begin.{Together}
@@ -20,6 +20,18 @@ rising_prop : {P : Type 0} (es : List (Entry P)) → IsProp (Rising es)
 rising_prop [] = Unit-prop
 rising_prop (e ∷ es) = ×_prop (hlevel props) (rising_prop es)
 
+sound_prop : {P : Type 0} (m : Meaning P) → IsProp (Sound m)
+sound_prop m p q =
+    let clock : IsProp (m.now ≤ m.last) = hlevel props in
+    let fits : IsProp (m.last ≤ 4294967295) = hlevel props in
+    let limited : IsProp (length m.limits ≡ 64) = hlevel props in
+    λ i. record {
+      clock = clock p.clock q.clock i;
+      fits = fits p.fits q.fits i;
+      limited = limited p.limited q.limited i;
+      rising = rising_prop m.pending p.rising q.rising i;
+    }
+
 within_prop : {P : Type 0} (m : Meaning P) → IsProp (Within m)
 within_prop m p q =
     let room : IsProp (length m.pending ≤ m.capacity) = hlevel props in
@@ -27,11 +39,11 @@ within_prop m p q =
     let known : IsProp (AllByRecursion (λ e. e.owner < 64) m.pending) = hlevel props in
     let issued : IsProp (AllByRecursion (λ e. e.ticket ≤ m.given) m.pending) = hlevel props in
     λ i. record {
+      sound = sound_prop m p.sound q.sound i;
       room = room p.room q.room i;
       allowed = allowed p.allowed q.allowed i;
       known = known p.known q.known i;
       issued = issued p.issued q.issued i;
-      rising = rising_prop m.pending p.rising q.rising i;
     }
 
 ready_prop : (s : State) → IsProp (Ready s)
@@ -41,14 +53,12 @@ ready_prop s p q =
     let resend_clock : IsProp (Together s.wire s.resend) = hlevel props in
     let keepalive_clock : IsProp (Together s.wire s.keepalive) = hlevel props in
     let span : IsProp (s.wire.now + 60000 ≤ s.wire.last) = hlevel props in
-    let fits : IsProp (s.wire.last ≤ 4294967295) = hlevel props in
     λ i. record {
       some = some p.some q.some i;
       most = most p.most q.most i;
       resend_clock = resend_clock p.resend_clock q.resend_clock i;
       keepalive_clock = keepalive_clock p.keepalive_clock q.keepalive_clock i;
       span = span p.span q.span i;
-      fits = fits p.fits q.fits i;
       wire = within_prop s.wire p.wire q.wire i;
       resend = within_prop s.resend p.resend q.resend i;
       keepalive = within_prop s.keepalive p.keepalive q.keepalive i;

@@ -1,1 +1,1 @@
-pub mod Stores
+pub mod Draft

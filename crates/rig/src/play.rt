@@ -1,6 +1,6 @@
 ghost use Rattle.std.specs.Prelude.{◌≡◌, IfOk};
 ghost use Rattle.replay.specs.Alike.{Both};
-ghost use Rattle.rig.specs.Stores.{with_fates};
+ghost use Rattle.rig.specs.Draft.{with_fates};
 
 use crate::script;
 use crate::stores::{Rows, Stores};
@@ -11,9 +11,7 @@ use replay::lent::Lent;
 use replay::pair::{Pair, run_pair};
 use std::alloc::Global;
 use timer::store::Store;
-use timer_list::list::ListOrder;
 use timer_quota::quota::Quota;
-use timer_wheel::wheel::WheelOrder;
 use transport::rig::Draft;
 
 /// The session over wheels, and beside it over lists of the same sizes.
@@ -26,12 +24,12 @@ pub fn over_wheels_and_lists(heap: Global) -> anyhow::Result<Pair>
         mut wire,
         mut resend,
         mut keepalive,
-    } = Stores::<WheelOrder>::over(&mut rows.wire, &mut rows.resend, &mut rows.keepalive);
+    } = Stores::wheels(&mut rows.wire, &mut rows.resend, &mut rows.keepalive);
     let Stores {
         wire: mut other_wire,
         resend: mut other_resend,
         keepalive: mut other_keepalive,
-    } = Stores::<ListOrder>::over(
+    } = Stores::lists(
         &mut other_rows.wire,
         &mut other_rows.resend,
         &mut other_rows.keepalive,

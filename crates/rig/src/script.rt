@@ -1,5 +1,5 @@
 ghost use Rattle.std.specs.Prelude.{◌≡◌, IfOk};
-ghost use Rattle.rig.specs.Stores.{with_fates};
+ghost use Rattle.rig.specs.Draft.{with_fates};
 
 use protocol::operation::Operation;
 use session::command::{Call, Command};

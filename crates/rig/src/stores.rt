@@ -1,13 +1,14 @@
 ghost use Rattle.std.specs.Prelude.{◌≡◌, length};
-ghost use Rattle.rig.specs.Stores.{idle};
+ghost use Rattle.timer_order.specs.Idle.{idle};
 
 use channel::record::Attempt;
 use link::packet::Packet;
 use timer::store::Store;
+use timer_list::list::{self, ListOrder, SortedList};
 use timer_order::order::Order;
 use timer_order::row_store::RowStore;
 use timer_rows::row::Row;
-use timer_wheel::wheel::LAST_TICK;
+use timer_wheel::wheel::{self, LAST_TICK, Wheel, WheelOrder};
 use trace::action::Segment;
 
 const WIRE_ROWS: usize = 512;
@@ -62,21 +63,40 @@ pub struct Stores<'a, O: Order<Packet> + Order<Attempt> + Order<u8>> {
     pub keepalive: RowStore<'a, u8, O>,
 }
 
-impl<'a, O: Order<Packet> + Order<Attempt> + Order<u8>> Stores<'a, O> {
-    /// The stores at tick 0.
-    pub fn over(
+impl<'a> Stores<'a, WheelOrder> {
+    /// Wheels at tick 0.
+    pub fn wheels(
         wire: &'a mut [Row<Packet>; WIRE_ROWS],
         resend: &'a mut [Row<Attempt>; RESEND_ROWS],
         keepalive: &'a mut [Row<u8>; KEEPALIVE_ROWS],
     ) -> Self
-        ensures wire { ⟦<RowStore<'a, Packet, O> as Store<Packet>>⟧.meaning result.wire ≡ idle (⟦<O as Order<Packet>>⟧.last_of 16777215) 512 }
-        ensures resend { ⟦<RowStore<'a, Attempt, O> as Store<Attempt>>⟧.meaning result.resend ≡ idle (⟦<O as Order<Attempt>>⟧.last_of 16777215) 256 }
-        ensures keepalive { ⟦<RowStore<'a, u8, O> as Store<u8>>⟧.meaning result.keepalive ≡ idle (⟦<O as Order<u8>>⟧.last_of 16777215) 64 }
+        ensures wire { ⟦<Wheel<'a, Packet> as Store<Packet>>⟧.meaning result.wire ≡ idle 0 LAST_TICK 512 }
+        ensures resend { ⟦<Wheel<'a, Attempt> as Store<Attempt>>⟧.meaning result.resend ≡ idle 0 LAST_TICK 256 }
+        ensures keepalive { ⟦<Wheel<'a, u8> as Store<u8>>⟧.meaning result.keepalive ≡ idle 0 LAST_TICK 64 }
     {
         Stores {
-            wire: RowStore::new(wire, 0, LAST_TICK),
-            resend: RowStore::new(resend, 0, LAST_TICK),
-            keepalive: RowStore::new(keepalive, 0, LAST_TICK),
+            wire: wheel::over(wire, 0),
+            resend: wheel::over(resend, 0),
+            keepalive: wheel::over(keepalive, 0),
+        }
+    }
+}
+
+impl<'a> Stores<'a, ListOrder> {
+    /// Lists at tick 0, with the last tick of the wheels.
+    pub fn lists(
+        wire: &'a mut [Row<Packet>; WIRE_ROWS],
+        resend: &'a mut [Row<Attempt>; RESEND_ROWS],
+        keepalive: &'a mut [Row<u8>; KEEPALIVE_ROWS],
+    ) -> Self
+        ensures wire { ⟦<SortedList<'a, Packet> as Store<Packet>>⟧.meaning result.wire ≡ idle 0 LAST_TICK 512 }
+        ensures resend { ⟦<SortedList<'a, Attempt> as Store<Attempt>>⟧.meaning result.resend ≡ idle 0 LAST_TICK 256 }
+        ensures keepalive { ⟦<SortedList<'a, u8> as Store<u8>>⟧.meaning result.keepalive ≡ idle 0 LAST_TICK 64 }
+    {
+        Stores {
+            wire: list::over(wire, 0, LAST_TICK),
+            resend: list::over(resend, 0, LAST_TICK),
+            keepalive: list::over(keepalive, 0, LAST_TICK),
         }
     }
 }

@@ -1,5 +1,5 @@
 -- What a timer store means, whatever it is made of.
-use Rattle.std.specs.Prelude.{◌≡◌, ℕ, ◌<◌, List, [], ◌∷◌, length}
+use Rattle.std.specs.Prelude.{◌≡◌, ℕ, ◌<◌, ◌≤◌, List, [], ◌∷◌, length}
 use Rattle.std.specs.List.{AllByRecursion}
 
 pub record Entry (P : Type 0) : Type 0 where
@@ -24,5 +24,8 @@ Rising (e ∷ es) = AllByRecursion (λ f. e.ticket < f.ticket) es × Rising es
 
 -- what holds of every store at any time
 pub record Sound {P : Type 0} (m : Meaning P) : Type 0 where
+  pub clock : m.now ≤ m.last
+  -- a tick has 32 bits
+  pub fits : m.last ≤ 4294967295
   pub limited : length m.limits ≡ 64
   pub rising : Rising m.pending

@@ -41,4 +41,5 @@ rising_raised shift [] r = tt
 rising_raised shift (e ∷ es) r = (above_raised e.ticket shift es r.0, rising_raised shift es r.1)
 
 pub aged_sound : {P : Type 0} (m : Meaning P) (shift : ℕ) → Sound m → Sound (aged m shift)
-aged_sound m shift s = record { limited = s.limited; rising = rising_raised shift m.pending s.rising }
+aged_sound m shift s =
+    record { clock = s.clock; fits = s.fits; limited = s.limited; rising = rising_raised shift m.pending s.rising }

@@ -1,5 +1,5 @@
 -- The heap when an entry comes or goes, and its first entry.
-use Rattle.std.proofs.Common.{◌≡◌, ℕ, ◌+◌, ◌-◌, ◌*◌, ◌<◌, ◌≤◌, ◌≢◌, List, [], ◌∷◌, length, get_or, set, sym, ap, ◌∙◌, subst, arith}
+use Rattle.std.proofs.Common.{◌≡◌, ℕ, ◌+◌, ◌-◌, ◌*◌, ◌<◌, ◌≤◌, ◌≢◌, List, [], ◌∷◌, length, get_or, set, sym, refl, ap, ◌∙◌, subst, arith}
 use Rattle.std.proofs.lemmas.List.{length-append, length-map, get_or-map, get_or-set_other}
 use Rattle.timer.specs.Meaning.{Entry, Meaning}
 use Rattle.timer.specs.Rules.{entered, with_pending, without}
@@ -9,10 +9,10 @@ use Rattle.timer_rows.specs.declared.ledger.Ledger.{Ledger}
 use Rattle.timer_rows.specs.Kept.{Kept}
 use Rattle.timer_rows.specs.Rows.{tickets, deadlines, nexts, prevs, contents, entry_of, entries, vacated, meant, NoneDue, Foremost}
 use Rattle.timer_rows.proofs.Moves.{some_row}
-use Rattle.timer_rows.proofs.Pending.{entries_find, entries_most, length_without, live_row}
+use Rattle.timer_rows.proofs.Pending.{all_entries, ticket_at, entries_find, entries_most, length_without, live_row}
 use Rattle.timer_rows.proofs.Same.{same_column, same_length, column_set, set_length}
 use Rattle.timer_heap.specs.Order.{Heap, Loose}
-use Rattle.timer_heap.specs.Positions.{Index, Indexed, Ordered, Unsettled, Sinking, key, keys, rank_at}
+use Rattle.timer_heap.specs.Positions.{Index, Indexed, Ordered, Unsettled, Sinking, Soonest, key, keys, rank_at}
 use Rattle.timer_heap.proofs.Places.{added_cell, enter_index, left_cell, leave_index}
 use Rattle.timer_heap.proofs.Rises.{top_lowest}
 use Rattle.timer_heap.proofs.Sinks.{settles, loose_past, moved_loose, added_loose}
@@ -20,6 +20,10 @@ use Rattle.timer_heap.proofs.Swaps.{reach, cell_b, swapped_index, swapped_other}
 
 index_at : {ts ts' cs cs' ps ps' : List ℕ} (k : ℕ) → ts' ≡ ts → cs' ≡ cs → ps' ≡ ps → Index ts cs ps k → Index ts' cs' ps' k
 index_at k e f g h = rw (e, f, g) h
+
+empty_of : {X : Type 0} (xs : List X) → length xs ≡ 0 → xs ≡ []
+empty_of [] e = refl
+empty_of (x ∷ xs) e = absurd (omega arith)
 
 -- the key of a row
 key_at : {P : Type 0} (rows : List (Row P)) (i : ℕ) → i < length rows → get_or (keys rows) i 0 ≡ get_or (deadlines rows) i 0 * 4294967296 + get_or (tickets rows) i 0
@@ -79,14 +83,14 @@ module _ {P : Type 0} (rows : List (Row P)) (l : Ledger) (k : Kept rows l) (h : 
           }
 
   -- the entry at the end has none below it
-  pub entered_ordered : (rows' : List (Row P)) (k k' : ℕ) → k' ≡ k + 1 → Sinking rows' k (k + 1) → Ordered rows' k'
-  entered_ordered rows' k k' e s =
+  pub inserted_ordered : (rows' : List (Row P)) (k k' : ℕ) → k' ≡ k + 1 → Sinking rows' k (k + 1) → Ordered rows' k'
+  inserted_ordered rows' k k' e s =
       subst (λ n. Ordered rows' n) (sym e)
       (record { index = s.index; heap = settles (rank_at rows') k (k + 1) (λ i a b c. absurd (omega arith)) s.sunk })
 
   -- the count after an entry has come
-  pub entered_count : (rows' : List (Row P)) (l' : Ledger) (deadline owner : ℕ) (payload : P) → Kept rows' l' → meant rows' l' ≡ entered (meant rows l) deadline owner payload → l'.pending ≡ l.pending + 1
-  entered_count rows' l' deadline owner payload kept is =
+  pub inserted_count : (rows' : List (Row P)) (l' : Ledger) (deadline owner : ℕ) (payload : P) → Kept rows' l' → meant rows' l' ≡ entered (meant rows l) deadline owner payload → l'.pending ≡ l.pending + 1
+  inserted_count rows' l' deadline owner payload kept is =
       let a = kept.sized in
       let b = ap (λ (m : Meaning P). length m.pending) is in
       let c = length-append (entries rows) (record { ticket = l.given + 1; deadline = deadline; owner = owner; payload = payload } ∷ []) in
@@ -141,8 +145,8 @@ module _ {P : Type 0} (rows : List (Row P)) (l : Ledger) (k : Kept rows l) (h : 
             moved_loose (rank_at rows) (rank_at rows') gap last left_rank
             (subst (λ m. Heap (rank_at rows) m) (let b = last_below in omega arith) h.heap)
 
-        pub left_unsettled : gap < last → Unsettled rows' gap last
-        left_unsettled b =
+        pub removed_unsettled : gap < last → Unsettled rows' gap last
+        removed_unsettled b =
             record {
               few = omega (arith, k.few, same_length rows mid same, set_length mid rows' x _ (is d));
               inside = b;
@@ -150,8 +154,8 @@ module _ {P : Type 0} (rows : List (Row P)) (l : Ledger) (k : Kept rows l) (h : 
               loose = left_loose;
             }
 
-        pub left_ordered : last ≤ gap → Ordered rows' last
-        left_ordered b = record { index = left_index; heap = loose_past (rank_at rows') gap last b left_loose }
+        pub removed_ordered : last ≤ gap → Ordered rows' last
+        removed_ordered b = record { index = left_index; heap = loose_past (rank_at rows') gap last b left_loose }
 
     -- the count after it has gone
     left_count : (rows' : List (Row P)) (l' : Ledger) → Kept rows' l' → meant rows' l' ≡ with_pending (meant rows l) (without (get_or (tickets rows) x 0) (entries rows)) → l'.pending ≡ l.pending - 1
@@ -164,8 +168,12 @@ module _ {P : Type 0} (rows : List (Row P)) (l : Ledger) (k : Kept rows l) (h : 
         let c = length_without (get_or (tickets rows) x 0) (entries rows) _ f in
         omega arith
 
-    pub left_all : (rows' : List (Row P)) (l' : Ledger) → Kept rows' l' → meant rows' l' ≡ with_pending (meant rows l) (without (get_or (tickets rows) x 0) (entries rows)) → (last : ℕ) → last ≡ l.pending - 1 → Ordered rows' last → Ordered rows' l'.pending
-    left_all rows' l' kept is last e o = subst (λ m. Ordered rows' m) (e ∙ sym (left_count rows' l' kept is)) o
+    pub removed_all : (rows' : List (Row P)) (l' : Ledger) → Kept rows' l' → meant rows' l' ≡ with_pending (meant rows l) (without (get_or (tickets rows) x 0) (entries rows)) → (last : ℕ) → last ≡ l.pending - 1 → Ordered rows' last → Ordered rows' l'.pending
+    removed_all rows' l' kept is last e o = subst (λ m. Ordered rows' m) (e ∙ sym (left_count rows' l' kept is)) o
+
+  -- no entry is pending
+  pub none_pending : l.pending ≡ 0 → entries rows ≡ []
+  none_pending z = empty_of (entries rows) (sym k.sized ∙ z)
 
   -- the row at the top
   module _ (x : ℕ) (some : 0 < l.pending) (is : x ≡ get_or (nexts rows) 0 0) where
@@ -182,6 +190,21 @@ module _ {P : Type 0} (rows : List (Row P)) (l : Ledger) (k : Kept rows l) (h : 
         let a = ap (λ r. get_or (keys rows) r 0) is in
         let b = ap (λ r. get_or (keys rows) r 0) (h.index.there i n) in
         omega arith
+
+    -- its entry comes before all others
+    pub top_soonest : Soonest (entries rows) (get_or (tickets rows) x 0)
+    top_soonest =
+        let xl = top_row.1 in
+        let d = some_row rows x xl in
+        let a = get_or-map (λ r. key (entry_of r)) rows x d 0 xl in
+        record {
+          entry = entry_of (get_or rows x d);
+          found = entries_find rows x d k.apart xl top_live;
+          first = all_entries (λ e. key (entry_of (get_or rows x d)) ≤ key e) rows (λ i f il n.
+              let b = get_or-map (λ r. key (entry_of r)) rows i f 0 il in
+              let c = top_least i (λ z. n (sym (ticket_at rows i f il) ∙ z)) in
+              omega arith);
+        }
 
     ticket_small : (i : ℕ) → get_or (tickets rows) i 0 < 4294967296
     ticket_small i = let a = k.issued i in let b = k.numbered in omega arith

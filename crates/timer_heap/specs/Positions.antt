@@ -1,7 +1,9 @@
 -- Where the entries of a heap stand: a row has an entry's position, and a position has the row.
 -- A row's link onward is the row that stands at the position with the row's own number, and its link back is the position of its entry.
-use Rattle.std.specs.Prelude.{◌≡◌, ℕ, ◌+◌, ◌*◌, ◌<◌, ◌≤◌, ◌≢◌, List, length, slice_index}
+use Rattle.std.specs.Prelude.{◌≡◌, ℕ, ◌+◌, ◌*◌, ◌<◌, ◌≤◌, ◌≢◌, List, length, Some, slice_index}
+use Rattle.std.specs.List.{AllByRecursion}
 use Rattle.timer.specs.Meaning.{Entry}
+use Rattle.timer.specs.Rules.{find}
 use Rattle.timer_rows.specs.declared.row.Row.{Row}
 use Rattle.timer_rows.specs.Links.{keys_by}
 use Rattle.timer_rows.specs.Rows.{tickets, nexts, prevs}
@@ -48,3 +50,9 @@ pub record Sinking {P : Type 0} (rows : List (Row P)) (i k : ℕ) : Type 0 where
   pub inside : i < k
   pub index : Indexed rows k
   pub sunk : Sunk (rank_at rows) i k
+
+-- t is the ticket of one of the entries, and none of them comes before it
+pub record Soonest {P : Type 0} (es : List (Entry P)) (t : ℕ) : Type 0 where
+  pub entry : Entry P
+  pub found : find t es ≡ Some entry
+  pub first : AllByRecursion (λ e. key entry ≤ key e) es

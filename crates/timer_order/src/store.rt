@@ -10,24 +10,51 @@ use timer_rows::row::Row;
 use timer_rows::rows::{capacity, row_of};
 
 impl<'a, P: Copy, O: Order<P>> RowStore<'a, P, O> {
-    ghost use Rattle.std.specs.Prelude.{◌≡◌, ◌<◌, ◌≢◌, min, [], ◌∷◌, length, replicate, None, MatchOption, slice_index, slice_index_or};
+    ghost use Rattle.std.specs.Prelude.{◌≡◌, ℕ, ◌<◌, ◌≢◌, ◌==◌, min, length, None, MatchOption, slice_index, slice_index_or};
     ghost use Rattle.timer.specs.Rules.{find, with_pending, without};
     ghost use Rattle.timer_rows.specs.Rows.{used, unused, tickets, entries, meant, NoneDue, Foremost};
+    ghost use Rattle.timer_order.specs.Idle.{idle, Starts};
 
-    /// A store with nothing pending over the rows, whatever they hold; its last tick is the order's for the one that is asked for, and a first tick above it counts as the last.
-    pub fn new(rows: &'a mut [Row<P>], first: u32, last: u32) -> Self
-        ensures meaning { meant (used result.rows.now) result.ledger ≡ record { now = min first (O.last_of last); last = O.last_of last; capacity = length (used rows.old); limits = replicate 64 (length (used rows.old)); given = 0; pending = [] } }
+    /// A store with nothing pending over the rows, whatever they hold, in an order of vacant rows; a first tick above the last counts as the last.
+    pub fn over(rows: &'a mut [Row<P>], first: u32, last: u32, order: O) -> Self
+        requires held { Starts O.Holds order (length (used rows.old)) last }
+        ensures meaning { meant (used result.rows.now) result.ledger ≡ idle first last (length (used rows.old)) }
+        ensures cleared { (i : ℕ) → slice_index (tickets (used result.rows.now)) i ≡ 0 }
         ensures unused { unused result.rows.now ≡ unused rows.old }
         ensures lender { result.rows.ghost_name ≡ rows.entry.ghost_name }
+        ensures order { result.order ≡ order }
     {
         let n = capacity(rows);
         clear(&mut rows[0..n]);
         RowStore {
             rows,
             count: n as u16,
-            ledger: Ledger::new(first, O::last_tick(last)),
-            order: O::empty(n),
+            ledger: Ledger::new(first, last),
+            order,
         }
+    }
+
+    /// The rows that are used.
+    #[tactic(auto, using(timer_rows::proofs::Parts::part_used))]
+    pub fn rows(&self) -> &[Row<P>]
+        ensures { result.now ≡ used self.now.rows.now }
+    {
+        let n = self.used();
+        &self.rows[0..n]
+    }
+
+    /// The clock, the tickets given and the counts.
+    pub fn ledger(&self) -> &Ledger
+        ensures { result.now ≡ self.now.ledger }
+    {
+        &self.ledger
+    }
+
+    /// The order of the entries.
+    pub fn order(&self) -> &O
+        ensures { result.now ≡ self.now.order }
+    {
+        &self.order
     }
 
     // How many of the rows are used.
@@ -63,6 +90,13 @@ impl<'a, P: Copy, O: Order<P>> RowStore<'a, P, O> {
         self.rows[x]
     }
 
+    // Whether now is the last tick.
+    fn is_ended(&self) -> bool
+        ensures { result ≡ (self.now.ledger.now == self.now.ledger.last) }
+    {
+        self.ledger.is_ended()
+    }
+
     // Gives up the entry of a row.
     // It is kept out of `take`, which a loop over ticks asks in each of them and which mostly finds nothing.
     #[inline(never)]
@@ -71,6 +105,7 @@ impl<'a, P: Copy, O: Order<P>> RowStore<'a, P, O> {
         ensures after { meant (used self.new.rows.now) self.new.ledger ≡ with_pending (meant (used self.old.rows.now) self.old.ledger) (without (slice_index (tickets (used self.old.rows.now)) x) (entries (used self.old.rows.now))) }
         ensures unused { unused self.new.rows.now ≡ unused self.old.rows.now }
         ensures lender { self.new.rows.ghost_name ≡ self.old.rows.ghost_name }
+        ensures noted { O.noted self.new.order ≡ O.noted self.old.order }
     {
         let n = self.used();
         self.order.remove(&mut self.rows[0..n], &mut self.ledger, x);
@@ -78,10 +113,10 @@ impl<'a, P: Copy, O: Order<P>> RowStore<'a, P, O> {
 }
 
 impl<'a, P: Copy, O: Order<P>> Store<P> for RowStore<'a, P, O> {
-    ghost use Rattle.std.specs.Prelude.{◌≡◌, false, [], ◌∷◌};
+    ghost use Rattle.std.specs.Prelude.{◌≡◌, false, [], ◌∷◌, is_ok, if◌then◌else◌, OnErr, IsNone};
     ghost use mathlib.Core.List as lists;
     ghost use Rattle.timer_rows.proofs.Sounds.{meant_sound};
-    ghost use Rattle.timer.specs.Rules.{due_rule};
+    ghost use Rattle.timer.specs.Rules.{due_rule, start_rule, stop_rule, take_rule, advance_rule};
     ghost use Rattle.timer_rows.specs.Rows.{used, unused, meant, NoneDue};
     ghost use Rattle.timer_rows.specs.declared.row.Row as row;
 
@@ -136,7 +171,14 @@ impl<'a, P: Copy, O: Order<P>> Store<P> for RowStore<'a, P, O> {
         check(&self.rows[0..n], &self.ledger, deadline, owner)
     }
 
-    fn start(&mut self, deadline: u32, owner: u8, payload: P) -> Result<u32, TimerFault> {
+    fn start(&mut self, deadline: u32, owner: u8, payload: P) -> Result<u32, TimerFault>
+        ensures answer { result ≡ (start_rule (meant (used self.old.rows.now) self.old.ledger) deadline owner payload).answer }
+        ensures after { meant (used self.new.rows.now) self.new.ledger ≡ (start_rule (meant (used self.old.rows.now) self.old.ledger) deadline owner payload).after }
+        ensures lenders { self.new.rows.ghost_name ∷ [] ≡ self.old.rows.ghost_name ∷ [] }
+        ensures beyond { unused self.new.rows.now ≡ unused self.old.rows.now }
+        ensures refused { OnErr result (self.new ≡ self.old) }
+        ensures noted { O.noted self.new.order ≡ (if is_ok result then O.note_of (meant (used self.old.rows.now) self.old.ledger) deadline else O.noted self.old.order) }
+    {
         if let Some(fault) = self.check(deadline, owner) {
             return Err(fault);
         }
@@ -146,14 +188,28 @@ impl<'a, P: Copy, O: Order<P>> Store<P> for RowStore<'a, P, O> {
         Ok(self.order.insert(rows, ledger, deadline, owner, payload))
     }
 
-    fn stop(&mut self, ticket: u32) -> Result<(u8, P), TimerFault> {
+    fn stop(&mut self, ticket: u32) -> Result<(u8, P), TimerFault>
+        ensures answer { result ≡ (stop_rule (meant (used self.old.rows.now) self.old.ledger) ticket).answer }
+        ensures after { meant (used self.new.rows.now) self.new.ledger ≡ (stop_rule (meant (used self.old.rows.now) self.old.ledger) ticket).after }
+        ensures lenders { self.new.rows.ghost_name ∷ [] ≡ self.old.rows.ghost_name ∷ [] }
+        ensures beyond { unused self.new.rows.now ≡ unused self.old.rows.now }
+        ensures refused { OnErr result (self.new ≡ self.old) }
+        ensures noted { O.noted self.new.order ≡ O.noted self.old.order }
+    {
         let x = self.row_of(ticket).ok_or(TimerFault::Missing)?;
         let row = self.row_at(x);
         self.remove(x);
         Ok((row.owner, row.payload))
     }
 
-    fn take(&mut self) -> Option<Expired<P>> {
+    fn take(&mut self) -> Option<Expired<P>>
+        ensures answer { result ≡ (take_rule (meant (used self.old.rows.now) self.old.ledger)).answer }
+        ensures after { meant (used self.new.rows.now) self.new.ledger ≡ (take_rule (meant (used self.old.rows.now) self.old.ledger)).after }
+        ensures lenders { self.new.rows.ghost_name ∷ [] ≡ self.old.rows.ghost_name ∷ [] }
+        ensures beyond { unused self.new.rows.now ≡ unused self.old.rows.now }
+        ensures refused { IsNone result → self.new ≡ self.old }
+        ensures noted { O.noted self.new.order ≡ O.noted self.old.order }
+    {
         let x = self.first_due()?;
         let row = self.row_at(x);
         self.remove(x);
@@ -164,13 +220,23 @@ impl<'a, P: Copy, O: Order<P>> Store<P> for RowStore<'a, P, O> {
         })
     }
 
-    fn advance(&mut self) -> Result<(), TimerFault> {
+    fn advance(&mut self) -> Result<(), TimerFault>
+        ensures answer { result ≡ (advance_rule (meant (used self.old.rows.now) self.old.ledger)).answer }
+        ensures after { meant (used self.new.rows.now) self.new.ledger ≡ (advance_rule (meant (used self.old.rows.now) self.old.ledger)).after }
+        ensures lenders { self.new.rows.ghost_name ∷ [] ≡ self.old.rows.ghost_name ∷ [] }
+        ensures beyond { unused self.new.rows.now ≡ unused self.old.rows.now }
+        ensures refused { OnErr result (self.new ≡ self.old) }
+        ensures noted { O.noted self.new.order ≡ O.noted self.old.order }
+    {
         if self.due() {
             return Err(TimerFault::Due);
         }
+        if self.is_ended() {
+            return Err(TimerFault::Ended);
+        }
         let n = self.used();
-        self.ledger.tick()?;
-        self.order.turn(&mut self.rows[0..n], &self.ledger);
+        self.ledger.tick();
+        self.order.cascade(&mut self.rows[0..n], &self.ledger);
         Ok(())
     }
 }

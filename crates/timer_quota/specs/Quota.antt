@@ -26,4 +26,5 @@ length_cut (x ∷ xs) [] = ap suc (length_cut xs [])
 length_cut (x ∷ xs) (n ∷ ns) = ap suc (length_cut xs ns)
 
 pub limited_sound : {P : Type 0} (m : Meaning P) (ns : List ℕ) → Sound m → Sound (limited m ns)
-limited_sound m ns s = record { limited = length_cut m.limits ns ∙ s.limited; rising = s.rising }
+limited_sound m ns s =
+    record { clock = s.clock; fits = s.fits; limited = length_cut m.limits ns ∙ s.limited; rising = s.rising }

@@ -1,7 +1,7 @@
 -- What a row that was read has in the columns.
 use Rattle.std.proofs.Common.{◌≡◌, ℕ, ◌<◌, List, length, get_or, sym, ap, ◌∙◌}
 use Rattle.std.proofs.lemmas.List.{get_or-map}
-use Rattle.timer_rows.specs.Chains.{newests, olders}
+use Rattle.timer_rows.specs.Buckets.{buckets, chains}
 use Rattle.timer_rows.specs.declared.row.Row.{Row}
 use Rattle.timer_rows.specs.declared.ends.Ends.{Ends}
 use Rattle.timer_rows.specs.Links.{ons}
@@ -19,8 +19,8 @@ module _ {P : Type 0} (rows : List (Row P)) (i : ℕ) (r : Row P) (is : r ≡ ge
   pub read_deadline : get_or (deadlines rows) i 0 ≡ r.deadline
   read_deadline = deadline_at rows i r l ∙ ap (λ (q : Row P). q.deadline) (sym is)
 
-  pub read_older : r.older ≡ get_or (olders rows) i 0
-  read_older = ap (λ (q : Row P). q.older) is ∙ sym (get_or-map (λ r. r.older) rows i r 0 l)
+  pub read_chain : r.chain ≡ get_or (chains rows) i 0
+  read_chain = ap (λ (q : Row P). q.chain) is ∙ sym (get_or-map (λ r. r.chain) rows i r 0 l)
 
-  pub read_newest : r.newest ≡ get_or (newests rows) i 65535
-  read_newest = ap (λ (q : Row P). q.newest) is ∙ sym (get_or-map (λ r. r.newest) rows i r 65535 l)
+  pub read_bucket : r.bucket ≡ get_or (buckets rows) i 65535
+  read_bucket = ap (λ (q : Row P). q.bucket) is ∙ sym (get_or-map (λ r. r.bucket) rows i r 65535 l)

@@ -1,7 +1,7 @@
 -- A walk along a chain.
 use Rattle.std.proofs.Common.{◌≡◌, ℕ, zero, suc, ◌-◌, ◌<◌, ◌≤◌, ◌≢◌, List, length, get_or, Some, None, refl, ap, ◌∙◌, arith}
 use Rattle.std.proofs.lemmas.Bool.Decides.{nat_tests}
-use Rattle.timer_rows.specs.Chains.{along}
+use Rattle.timer_rows.specs.Buckets.{along}
 
 module _ (ks os : List ℕ) (t : ℕ) where
   -- the chain has ended

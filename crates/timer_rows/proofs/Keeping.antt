@@ -11,7 +11,7 @@ use Rattle.timer_rows.specs.Rows.{tickets, entry_of, entries, meant}
 use Rattle.timer_rows.specs.Counts.{raised, lowered}
 use Rattle.timer_rows.specs.Kept.{Kept}
 use Rattle.timer_rows.proofs.Columns.{column_same, set_cases}
-use Rattle.timer_rows.proofs.Pending.{count_push, count_without, count_most, length_without, entries_enter, entries_leave, entries_find, entries_most}
+use Rattle.timer_rows.proofs.Pending.{count_push, count_without, count_most, length_without, entries_insert, entries_remove, entries_find, entries_most}
 
 module _ {P : Type 0} where
   -- a column of rows of which one is changed, at any place
@@ -38,8 +38,8 @@ module _ {P : Type 0} where
       (set_cases cs e.owner (get_or cs e.owner 0 - 1) 0 o (omega arith))
 
 -- the numbers that an entry raises fit their types
-pub enter_fits : {P : Type 0} (rows : List (Row P)) (l : Ledger) → Kept rows l → (deadline owner : ℕ) → Open (meant rows l) deadline owner → (l.given + 1 < 2 ^ 32) × (l.pending + 1 < 2 ^ 16) × (get_or l.counts owner 0 + 1 < 2 ^ 16)
-enter_fits rows l k deadline owner o =
+pub insert_fits : {P : Type 0} (rows : List (Row P)) (l : Ledger) → Kept rows l → (deadline owner : ℕ) → Open (meant rows l) deadline owner → (l.given + 1 < 2 ^ 32) × (l.pending + 1 < 2 ^ 16) × (get_or l.counts owner 0 + 1 < 2 ^ 16)
+insert_fits rows l k deadline owner o =
     let m = entries_most rows in
     let w = count_most owner (entries rows) in
     let a = k.counted owner o.known in
@@ -48,12 +48,12 @@ enter_fits rows l k deadline owner o =
 
 module _ {P : Type 0} (rows : List (Row P)) (l : Ledger) (k : Kept rows l) (x : ℕ) (r : Row P) (xl : x < length rows) where
   -- x is vacant, and takes in r
-  module _ (v : get_or (tickets rows) x 0 ≡ 0) (o : Open (meant rows l) r.deadline r.owner) (t : r.ticket ≡ l.given + 1) where
+  module _ (v : get_or (tickets rows) x 0 ≡ 0) (o : Open (meant rows l) r.deadline r.owner) (t : r.ticket ≡ l.given + 1) (top : ℕ) where
     pub entries_with : entries (set rows x r) ≡ entries rows ++ entry_of r ∷ []
-    entries_with = entries_enter rows x r xl v (λ i. omega (arith, k.issued i))
+    entries_with = entries_insert rows x r xl v (λ i. omega (arith, k.issued i))
 
-    pub kept_enter : Kept (set rows x r) (raised l r.owner)
-    kept_enter =
+    pub kept_insert : Kept (set rows x r) (raised l r.owner top)
+    kept_insert =
         record {
           few = simp length-set k.few;
           apart = λ i j n e.
@@ -93,10 +93,11 @@ module _ {P : Type 0} (rows : List (Row P)) (l : Ledger) (k : Kept rows l) (x : 
               (column_cases (λ r. r.ticket) rows x r i xl))
               (column_cases (λ r. r.deadline) rows x r i xl);
           clock = k.clock;
+          fits = k.fits;
         }
 
-    pub meant_enter : meant (set rows x r) (raised l r.owner) ≡ entered (meant rows l) r.deadline r.owner r.payload
-    meant_enter =
+    pub meant_insert : meant (set rows x r) (raised l r.owner top) ≡ entered (meant rows l) r.deadline r.owner r.payload
+    meant_insert =
         let n = length-set rows x r in
         let e : entry_of r ≡ record { ticket = l.given + 1; deadline = r.deadline; owner = r.owner; payload = r.payload } = ap (λ i. record { ticket = i; deadline = r.deadline; owner = r.owner; payload = r.payload }) t in
         rw (entries_with, n, e)
@@ -107,21 +108,21 @@ module _ {P : Type 0} (rows : List (Row P)) (l : Ledger) (k : Kept rows l) (x : 
     found = entries_find rows x s k.apart xl v ∙ ap (λ (q : Row P). Some (entry_of q)) (sym is)
 
     pub entries_but : entries (set rows x r) ≡ without (get_or (tickets rows) x 0) (entries rows)
-    entries_but = entries_leave rows x r k.apart v t
+    entries_but = entries_remove rows x r k.apart v t
 
     -- the counts can be lowered
-    pub leave_known : s.owner < 64
-    leave_known = omega (arith, k.owned x v, get_or-map (λ r. r.owner) rows x s 0 xl, ap (λ (q : Row P). q.owner) is)
+    pub remove_known : s.owner < 64
+    remove_known = omega (arith, k.owned x v, get_or-map (λ r. r.owner) rows x s 0 xl, ap (λ (q : Row P). q.owner) is)
 
-    pub leave_some : (0 < l.pending) × (0 < get_or l.counts s.owner 0)
-    leave_some =
+    pub remove_some : (0 < l.pending) × (0 < get_or l.counts s.owner 0)
+    remove_some =
         let a = length_without (get_or (tickets rows) x 0) (entries rows) (entry_of s) found in
         let b = count_without s.owner (get_or (tickets rows) x 0) (entries rows) (entry_of s) found in
-        let c = k.counted s.owner leave_known in
+        let c = k.counted s.owner remove_known in
         (omega (arith, k.sized), grind (arith, nat_tests))
 
-    pub kept_leave : (y : ℕ) → Kept (set rows x r) (lowered l s.owner y)
-    kept_leave y =
+    pub kept_remove : (y : ℕ) → Kept (set rows x r) (lowered l s.owner y)
+    kept_remove y =
         record {
           few = simp length-set k.few;
           apart = λ i j n e.
@@ -140,7 +141,7 @@ module _ {P : Type 0} (rows : List (Row P)) (l : Ledger) (k : Kept rows l) (x : 
           numbered = k.numbered;
           each = simp length-set k.each;
           sized = omega (arith, k.sized, ap length entries_but, length_without (get_or (tickets rows) x 0) (entries rows) (entry_of s) found);
-          counted = λ w h. counts_less l.counts (entries rows) (get_or (tickets rows) x 0) (entry_of s) w k.each leave_known h found k.counted ∙ ap (count w) (sym entries_but);
+          counted = λ w h. counts_less l.counts (entries rows) (get_or (tickets rows) x 0) (entry_of s) w k.each remove_known h found k.counted ∙ ap (count w) (sym entries_but);
           owned = λ i n.
               ⊎_elim
               (λ p. absurd (n (p.1 ∙ t)))
@@ -152,10 +153,11 @@ module _ {P : Type 0} (rows : List (Row P)) (l : Ledger) (k : Kept rows l) (x : 
               (λ p. rw (column_same (λ r. r.deadline) rows x r s xl (dl ∙ ap (λ (q : Row P). q.deadline) is)) (k.timed i (λ z. n (p.1 ∙ z))))
               (column_cases (λ r. r.ticket) rows x r i xl);
           clock = k.clock;
+          fits = k.fits;
         }
 
-    pub meant_leave : (y : ℕ) → meant (set rows x r) (lowered l s.owner y) ≡ with_pending (meant rows l) (without (get_or (tickets rows) x 0) (entries rows))
-    meant_leave y = let n = length-set rows x r in rw (entries_but, n)
+    pub meant_remove : (y : ℕ) → meant (set rows x r) (lowered l s.owner y) ≡ with_pending (meant rows l) (without (get_or (tickets rows) x 0) (entries rows))
+    meant_remove y = let n = length-set rows x r in rw (entries_but, n)
 
 -- where the store is not full, no owner has reached its limit
 pub check_none : {P : Type 0} (rows : List (Row P)) (l : Ledger) → Kept rows l → (deadline owner : ℕ) → leb deadline l.now ≡ false → ltb l.last deadline ≡ false → owner < 64 → eqb l.given 4294967295 ≡ false → l.pending ≢ length rows → None ≡ check_rule (meant rows l) deadline owner

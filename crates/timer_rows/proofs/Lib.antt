@@ -12,3 +12,8 @@ pub mod Props
 pub mod Sounds
 pub mod Asked
 pub mod Chained
+pub mod Sorts
+pub mod Walking
+pub mod Homes
+pub mod Meeting
+pub mod Fronts

@@ -1,5 +1,5 @@
 -- Slots stay slots when a row is taken out of one or put into one.
-use Rattle.std.proofs.Common.{◌≡◌, ℕ, zero, suc, ◌+◌, ◌-◌, ◌<◌, ◌≤◌, ◌≢◌, List, length, get_or, set, sym, refl, ap, ◌∙◌, ⊎_elim, arith}
+use Rattle.std.proofs.Common.{◌≡◌, ℕ, ◌+◌, ◌<◌, ◌≤◌, ◌≢◌, List, length, get_or, set, sym, refl, ap, ◌∙◌, ⊎_elim, arith}
 use Rattle.std.proofs.lemmas.List.{get_or-set_same, get_or-set_other, length-set, get_or_past}
 use Rattle.std.proofs.lemmas.Bool.{cases_lt}
 use Rattle.timer_rows.specs.Links.{Leads, Linked}
@@ -190,38 +190,6 @@ module _ (ns ps hs ks : List ℕ) (n m : ℕ) (k : Linked ns ps hs ks n m) where
         homes = k.homes;
         keys = length-set ks x v ∙ k.keys;
       }
-
-  -- the first row of a slot has its lowest key
-  pub record First (s x : ℕ) : Type 0 where
-    pub row : get_or ns (n + s) 0 < n
-    pub home : get_or hs (get_or ns (n + s) 0) m ≡ s
-    pub least : get_or ks (get_or ns (n + s) 0) 0 ≤ get_or ks x 0
-
-  first_by : (fuel s x : ℕ) → get_or ks x 0 < fuel → x < n → get_or hs x m ≡ s → s < m → First s x
-  first_by zero s x f xn h sm = absurd (omega arith)
-  first_by (suc fuel) s x f xn h sm =
-      let xh : get_or hs x m < m = omega (arith, h) in
-      let b = k.back x xh in
-      ⊎_elim
-      (λ (l : get_or ps x 0 < n).
-      let ph : get_or hs (get_or ps x 0) m < m = omega (arith, b.1) in
-      let c : get_or ns (get_or ps x 0) 0 < n = omega (arith, b.2) in
-      let u = k.up (get_or ps x 0) l ph c in
-      let e = ap (λ i. get_or ks i 0) b.2 in
-      let r = first_by fuel s (get_or ps x 0) (omega arith) l (b.1 ∙ h) sm in
-      record { row = r.row; home = r.home; least = omega (arith, r.least) })
-      (λ (l : n ≤ get_or ps x 0).
-      let v = get_or ps x 0 - n in
-      let vm : get_or ps x 0 - n < m = omega (arith, b.0) in
-      let pv : n + (get_or ps x 0 - n) ≡ get_or ps x 0 = omega arith in
-      let sv : get_or ps x 0 - n ≡ s = sym (k.sentinels (get_or ps x 0 - n) vm) ∙ ap (λ i. get_or hs i m) pv ∙ b.1 ∙ h in
-      let p : n + s ≡ get_or ps x 0 = omega (arith, sv) in
-      let e : get_or ns (n + s) 0 ≡ x = ap (λ i. get_or ns i 0) p ∙ b.2 in
-      record { row = omega (arith, e); home = ap (λ i. get_or hs i m) e ∙ h; least = omega (arith, ap (λ i. get_or ks i 0) e) })
-      (cases_lt (get_or ps x 0) n)
-
-  pub first : (s x : ℕ) → x < n → get_or hs x m ≡ s → s < m → First s x
-  first s x xn h sm = first_by (suc (get_or ks x 0)) s x (omega arith) xn h sm
 
 -- slots over columns that are equal
 pub linked_at : {ns ns' ps ps' hs hs' ks ks' : List ℕ} {n n' : ℕ} (m : ℕ) → ns' ≡ ns → ps' ≡ ps → hs' ≡ hs → ks' ≡ ks → n' ≡ n → Linked ns ps hs ks n m → Linked ns' ps' hs' ks' n' m

@@ -260,25 +260,25 @@ module _ {P : Type 0} where
       (cases_Bool (eqb r.ticket 0))
 
   -- a vacant row takes in an entry with a ticket above all
-  pub entries_enter : (rows : List (Row P)) (x : ℕ) (r : Row P) → x < length rows → get_or (tickets rows) x 0 ≡ 0 → ((i : ℕ) → get_or (tickets rows) i 0 < r.ticket) → entries (set rows x r) ≡ entries rows ++ entry_of r ∷ []
-  entries_enter [] x r l z h = absurd (omega arith)
-  entries_enter (s ∷ rs) zero r l z h =
+  pub entries_insert : (rows : List (Row P)) (x : ℕ) (r : Row P) → x < length rows → get_or (tickets rows) x 0 ≡ 0 → ((i : ℕ) → get_or (tickets rows) i 0 < r.ticket) → entries (set rows x r) ≡ entries rows ++ entry_of r ∷ []
+  entries_insert [] x r l z h = absurd (omega arith)
+  entries_insert (s ∷ rs) zero r l z h =
       let n : r.ticket ≢ 0 = λ e. omega (arith, h 0) in
       rw (ne_eqb r.ticket 0 n, eq-eqb s.ticket 0 z) (placed_last (entry_of r) (entries rs) (under r.ticket rs (λ i. h (suc i))))
-  entries_enter (s ∷ rs) (suc x) r l z h =
-      let i = entries_enter rs x r (omega arith) z (λ i. h (suc i)) in
+  entries_insert (s ∷ rs) (suc x) r l z h =
+      let i = entries_insert rs x r (omega arith) z (λ i. h (suc i)) in
       ⊎_elim
       (λ (q : eqb s.ticket 0 ≡ true). rw q i)
       (λ (q : eqb s.ticket 0 ≡ false). rw q (ap (placed (entry_of s)) i ∙ placed_push (entry_of s) (entries rs) (entry_of r) (h 0)))
       (cases_Bool (eqb s.ticket 0))
 
   -- a row gives up its entry
-  pub entries_leave : (rows : List (Row P)) (x : ℕ) (r : Row P) → Apart rows → get_or (tickets rows) x 0 ≢ 0 → r.ticket ≡ 0 → entries (set rows x r) ≡ without (get_or (tickets rows) x 0) (entries rows)
-  entries_leave [] x r a n z = absurd (n refl)
-  entries_leave (s ∷ rs) zero r a n z =
+  pub entries_remove : (rows : List (Row P)) (x : ℕ) (r : Row P) → Apart rows → get_or (tickets rows) x 0 ≢ 0 → r.ticket ≡ 0 → entries (set rows x r) ≡ without (get_or (tickets rows) x 0) (entries rows)
+  entries_remove [] x r a n z = absurd (n refl)
+  entries_remove (s ∷ rs) zero r a n z =
       rw (eq-eqb r.ticket 0 z, ne_eqb s.ticket 0 n) (sym (without_placed (entry_of s) (entries rs) (apart_first s rs n a)))
-  entries_leave (s ∷ rs) (suc x) r a n z =
-      let i = entries_leave rs x r (apart_rest s rs a) n z in
+  entries_remove (s ∷ rs) (suc x) r a n z =
+      let i = entries_remove rs x r (apart_rest s rs a) n z in
       ⊎_elim
       (λ (q : eqb s.ticket 0 ≡ true). rw q i)
       (λ (q : eqb s.ticket 0 ≡ false).

@@ -2,12 +2,15 @@
 use Rattle.std.proofs.Common.{◌≡◌, ℕ, ◌+◌, ◌^◌, ◌<◌, ◌≤◌, ◌≢◌, List, length, get_or}
 use mathlib.Core.Logic.{∥∥₁_elim}
 use denote.Struct.Props.{props}
+use Rattle.timer.specs.Meaning.{Entry}
 use Rattle.timer.specs.Rules.{count}
 use Rattle.timer_rows.specs.declared.row.Row.{Row}
 use Rattle.timer_rows.specs.declared.ledger.Ledger.{Ledger}
 use Rattle.timer_rows.specs.Kept.{Kept}
-use Rattle.timer_rows.specs.Links.{Leads, Linked}
+use Rattle.timer_rows.specs.declared.ends.Ends.{Ends}
+use Rattle.timer_rows.specs.Links.{ons, backs, keys_by, Leads, Linked}
 use Rattle.timer_rows.specs.Rows.{tickets, deadlines, owners, entries}
+use Rattle.timer_rows.specs.Slots.{homes, Slots}
 
 pub kept_prop : {P : Type 0} (rows : List (Row P)) (l : Ledger) → IsProp (Kept rows l)
 kept_prop rows l p q =
@@ -21,6 +24,7 @@ kept_prop rows l p q =
     let owned : IsProp ((i : ℕ) → get_or (tickets rows) i 0 ≢ 0 → get_or (owners rows) i 0 < 64) = hlevel props in
     let timed : IsProp ((i : ℕ) → get_or (tickets rows) i 0 ≢ 0 → (l.now ≤ get_or (deadlines rows) i 0) × (get_or (deadlines rows) i 0 ≤ l.last)) = hlevel props in
     let clock : IsProp (l.now ≤ l.last) = hlevel props in
+    let fits : IsProp (l.last < 2 ^ 32) = hlevel props in
     λ i. record {
       few = few p.few q.few i;
       apart = apart p.apart q.apart i;
@@ -32,6 +36,7 @@ kept_prop rows l p q =
       owned = owned p.owned q.owned i;
       timed = timed p.timed q.timed i;
       clock = clock p.clock q.clock i;
+      fits = fits p.fits q.fits i;
     }
 
 pub kept_out : {P : Type 0} (rows : List (Row P)) (l : Ledger) → ∥ Kept rows l ∥₁ → Kept rows l
@@ -54,4 +59,12 @@ linked_prop ns ps hs ks n m p q =
       backward = long ps (n + m) p.backward q.backward i;
       homes = long hs (n + m) p.homes q.homes i;
       keys = long ks n p.keys q.keys i;
+    }
+
+pub slots_prop : {P : Type 0} (slot key : Entry P → ℕ) (rows : List (Row P)) (es : List Ends) (m : ℕ) → IsProp (Slots slot key rows es m)
+slots_prop slot key rows es m p q =
+    let each : IsProp ((i : ℕ) → get_or (tickets rows) i 0 ≢ 0 → get_or (homes m slot rows) i m < m) = hlevel props in
+    λ i. record {
+      each = each p.each q.each i;
+      linked = linked_prop (ons rows es) (backs rows es) (homes m slot rows) (keys_by key rows) (length rows) m p.linked q.linked i;
     }

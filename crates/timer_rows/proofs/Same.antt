@@ -1,12 +1,11 @@
 -- A store whose links changed, or whose clock went on, and nothing else.
-use Rattle.std.proofs.Common.{◌≡◌, ℕ, ◌<◌, ◌≤◌, min, cond, eqb, ◌≢◌, List, [], ◌∷◌, map, length, get_or, set, replicate, sym, refl, ap, ◌∙◌, ⊎_elim, arith}
+use Rattle.std.proofs.Common.{◌≡◌, ℕ, ◌^◌, ◌<◌, ◌≤◌, min, ◌≢◌, List, [], ◌∷◌, map, length, get_or, set, replicate, sym, refl, ap, ◌∙◌, arith}
 use Rattle.std.proofs.lemmas.List.{length-map, length-set, length-replicate, map-set, get_or-replicate}
-use Rattle.std.proofs.lemmas.Bool.{cases_eq, eq-eqb, ne_eqb}
 use Rattle.timer.specs.Meaning.{Entry, Meaning}
 use Rattle.timer.specs.Rules.{count, with_pending, without}
 use Rattle.timer_rows.specs.declared.row.Row.{Row}
 use Rattle.timer_rows.specs.declared.ledger.Ledger.{Ledger}
-use Rattle.timer_rows.specs.Chains.{newests, olders}
+use Rattle.timer_rows.specs.Buckets.{buckets, chains}
 use Rattle.timer_rows.specs.Counts.{ticked_ledger}
 use Rattle.timer_rows.specs.Kept.{Kept}
 use Rattle.timer_rows.specs.Rows.{tickets, deadlines, owners, nexts, prevs, contents, entry_of, listed, entries, meant, NoneDue}
@@ -15,7 +14,7 @@ use Rattle.timer_rows.proofs.Pending.{live_row, entries_none}
 
 module _ {P : Type 0} where
   -- a column that is read off the contents
-  column_of : {Y : Type 0} (f : Entry P → Y) (rows : List (Row P)) → map (λ r. f (entry_of r)) rows ≡ map f (contents rows)
+  pub column_of : {Y : Type 0} (f : Entry P → Y) (rows : List (Row P)) → map (λ r. f (entry_of r)) rows ≡ map f (contents rows)
   column_of f [] = refl
   column_of f (r ∷ rs) = ap (λ l. f (entry_of r) ∷ l) (column_of f rs)
 
@@ -49,6 +48,7 @@ module _ {P : Type 0} where
         owned = rw (t, o) k.owned;
         timed = rw (t, d) k.timed;
         clock = k.clock;
+        fits = k.fits;
       }
 
   pub same_meant : (a b : List (Row P)) (l : Ledger) → contents b ≡ contents a → meant b l ≡ meant a l
@@ -60,8 +60,8 @@ module _ {P : Type 0} where
       (omega (arith, live.0, same_length a b e), λ z. live.1 (ap (λ ts. get_or ts x 0) (sym (same_column (λ e. e.ticket) a b e)) ∙ z))
 
   -- an entry left after links had changed
-  pub left_meant : (a b rows' : List (Row P)) (l l' : Ledger) (x : ℕ) → contents b ≡ contents a → meant rows' l' ≡ with_pending (meant b l) (without (get_or (tickets b) x 0) (entries b)) → meant rows' l' ≡ with_pending (meant a l) (without (get_or (tickets a) x 0) (entries a))
-  left_meant a b rows' l l' x e is =
+  pub removed_meant : (a b rows' : List (Row P)) (l l' : Ledger) (x : ℕ) → contents b ≡ contents a → meant rows' l' ≡ with_pending (meant b l) (without (get_or (tickets b) x 0) (entries b)) → meant rows' l' ≡ with_pending (meant a l) (without (get_or (tickets a) x 0) (entries a))
+  removed_meant a b rows' l l' x e is =
       is
       ∙ ap (λ (m : Meaning P). with_pending m (without (get_or (tickets b) x 0) (entries b))) (same_meant a b l e)
       ∙ ap (λ ts. with_pending (meant a l) (without (get_or ts x 0) (entries b))) (same_column (λ e. e.ticket) a b e)
@@ -72,8 +72,8 @@ module _ {P : Type 0} where
   links_kept rows x r d l nx pv = (column_same (λ r. r.next) rows x r d l nx, column_same (λ r. r.prev) rows x r d l pv)
 
   -- and its chain links
-  pub chains_kept : (rows : List (Row P)) (x : ℕ) (r d : Row P) → x < length rows → r.newest ≡ (get_or rows x d).newest → r.older ≡ (get_or rows x d).older → (newests (set rows x r) ≡ newests rows) × (olders (set rows x r) ≡ olders rows)
-  chains_kept rows x r d l n o = (column_same (λ r. r.newest) rows x r d l n, column_same (λ r. r.older) rows x r d l o)
+  pub chains_kept : (rows : List (Row P)) (x : ℕ) (r d : Row P) → x < length rows → r.bucket ≡ (get_or rows x d).bucket → r.chain ≡ (get_or rows x d).chain → (buckets (set rows x r) ≡ buckets rows) × (chains (set rows x r) ≡ chains rows)
+  chains_kept rows x r d l n o = (column_same (λ r. r.bucket) rows x r d l n, column_same (λ r. r.chain) rows x r d l o)
 
   -- one tick later, where nothing was due
   pub tick_kept : (rows : List (Row P)) (l : Ledger) → Kept rows l → NoneDue l.now rows → l.now ≢ l.last → Kept rows (ticked_ledger l)
@@ -92,18 +92,12 @@ module _ {P : Type 0} where
             let ne = none i (live_row rows i n) n in
             (omega arith, w.1);
         clock = let c = k.clock in omega arith;
+        fits = k.fits;
       }
 
-  pub kept_tick : (rows : List (Row P)) (l : Ledger) → Kept rows l → NoneDue l.now rows → Kept rows (cond (eqb l.now l.last) l (ticked_ledger l))
-  kept_tick rows l k none =
-      ⊎_elim
-      (λ (e : l.now ≡ l.last). rw (eq-eqb l.now l.last e) k)
-      (λ (e : l.now ≢ l.last). rw (ne_eqb l.now l.last e) (tick_kept rows l k none e))
-      (cases_eq l.now l.last)
-
   -- vacant rows and a new ledger
-  pub new_kept : (rows : List (Row P)) (first last : ℕ) → length rows ≤ 4096 → ((i : ℕ) → get_or (tickets rows) i 0 ≡ 0) → Kept rows (record { now = min first last; last = last; given = 0; pending = 0; vacated = 0; counts = replicate 64 0 })
-  new_kept rows first last n z =
+  pub new_kept : (rows : List (Row P)) (first last : ℕ) → last < 2 ^ 32 → length rows ≤ 4096 → ((i : ℕ) → get_or (tickets rows) i 0 ≡ 0) → Kept rows (record { now = min first last; last = last; given = 0; pending = 0; vacant = 0; counts = replicate 64 0 })
+  new_kept rows first last fits n z =
       let s = entries_none rows z in
       record {
         few = n;
@@ -116,4 +110,5 @@ module _ {P : Type 0} where
         owned = λ i h. absurd (h (z i));
         timed = λ i h. absurd (h (z i));
         clock = omega arith;
+        fits = fits;
       }

@@ -2,28 +2,13 @@
 use Rattle.std.specs.Prelude.{ℕ, ◌+◌, ◌-◌, slice_index, slice_set}
 use Rattle.timer_rows.specs.declared.ledger.Ledger.{Ledger}
 
-abbrev pub raised : Ledger → ℕ → Ledger
-raised l o =
-    record {
-      now = l.now;
-      last = l.last;
-      given = l.given + 1;
-      pending = l.pending + 1;
-      vacated = l.vacated;
-      counts = slice_set l.counts o (slice_index l.counts o + 1);
-    }
+abbrev pub raised : Ledger → ℕ → ℕ → Ledger
+raised l o x =
+    record l { given = l.given + 1; pending = l.pending + 1; vacant = x; counts = slice_set l.counts o (slice_index l.counts o + 1) }
 
 abbrev pub lowered : Ledger → ℕ → ℕ → Ledger
 lowered l o x =
-    record {
-      now = l.now;
-      last = l.last;
-      given = l.given;
-      pending = l.pending - 1;
-      vacated = x;
-      counts = slice_set l.counts o (slice_index l.counts o - 1);
-    }
+    record l { pending = l.pending - 1; vacant = x; counts = slice_set l.counts o (slice_index l.counts o - 1) }
 
 abbrev pub ticked_ledger : Ledger → Ledger
-ticked_ledger l =
-    record { now = l.now + 1; last = l.last; given = l.given; pending = l.pending; vacated = l.vacated; counts = l.counts }
+ticked_ledger l = record l { now = l.now + 1 }

@@ -19,3 +19,4 @@ pub record Kept {P : Type 0} (rows : List (Row P)) (l : Ledger) : Type 0 where
   -- no deadline has passed, and none lies after the last tick
   pub timed : (i : ℕ) → slice_index (tickets rows) i ≢ 0 → (l.now ≤ slice_index (deadlines rows) i) × (slice_index (deadlines rows) i ≤ l.last)
   pub clock : l.now ≤ l.last
+  pub fits : l.last < 2 ^ 32

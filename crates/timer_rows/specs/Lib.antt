@@ -1,5 +1,7 @@
 pub mod Counts
 pub mod Rows
-pub mod Chains
+pub mod Buckets
 pub mod Kept
 pub mod Links
+pub mod Walks
+pub mod Slots

@@ -33,13 +33,6 @@ pub record Linked (ns ps hs ks : List ℕ) (n m : ℕ) : Type 0 where
   pub homes : length hs ≡ n + m
   pub keys : length ks ≡ n
 
--- The slots of a store: `home` gives the slot of a row from what it holds, `tail` is the slots of the sentinels, and `key` is what a slot is sorted by.
-abbrev pub homes_by : {P : Type 0} → (Entry P → ℕ) → List ℕ → List (Row P) → List ℕ
-homes_by home tail rows = map (λ r. home (entry_of r)) rows ++ tail
-
+-- what rows are sorted by
 abbrev pub keys_by : {P : Type 0} → (Entry P → ℕ) → List (Row P) → List ℕ
 keys_by key rows = map (λ r. key (entry_of r)) rows
-
-abbrev pub Slots : {P : Type 0} → (Entry P → ℕ) → List ℕ → (Entry P → ℕ) → List (Row P) → List Ends → ℕ → Type 0
-Slots home tail key rows es m =
-    Linked (ons rows es) (backs rows es) (homes_by home tail rows) (keys_by key rows) (length rows) m

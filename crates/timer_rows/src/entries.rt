@@ -1,24 +1,27 @@
 ghost use Rattle.std.specs.Prelude.{◌≡◌, ℕ, ◌+◌, ◌<◌, ◌≤◌, min, ◌≢◌, [], length, replicate, None, slice_index, slice_index_or, slice_set};
 ghost use Rattle.timer.specs.Meaning.{Entry};
 ghost use Rattle.timer.specs.Rules.{check_rule, entered, with_pending, without};
-ghost use Rattle.timer_rows.specs.Chains.{newests, olders, home_of, newests_without, olders_without};
+ghost use Rattle.timer_rows.specs.Buckets.{buckets, chains, bucket_of, buckets_without, chains_without};
 ghost use Rattle.timer_rows.specs.Kept.{Kept};
 ghost use Rattle.timer_rows.specs.Rows.{tickets, nexts, prevs, vacated, contents, entries, meant};
 
-use crate::chains::{chain, home, unchain};
+use crate::buckets::{bucket_of, chain, unchain};
 use crate::ledger::Ledger;
 use crate::row::{NO_ROW, Row};
-use crate::rows::vacant;
+use crate::rows::vacant_row;
 use timer::fault::TimerFault;
 
-/// Marks every row vacant, and the home of no entry.
+/// Marks every row vacant and every bucket empty, and puts all rows on the stack of vacant rows, row 0 on top.
 pub fn clear<P: Copy>(rows: &mut [Row<P>])
+    requires { length rows.old ≤ 4096 }
     ensures vacant { (i : ℕ) → slice_index (tickets rows.new) i ≡ 0 }
-    ensures chains { (i : ℕ) → slice_index_or (newests rows.new) i 65535 ≡ 65535 }
+    ensures buckets { (i : ℕ) → slice_index_or (buckets rows.new) i 65535 ≡ 65535 }
+    ensures stack { (i : ℕ) → i < length rows.new → slice_index (chains rows.new) i ≡ i + 1 }
 {
-    for row in rows.iter_mut() {
+    for (x, row) in rows.iter_mut().enumerate() {
         row.ticket = 0;
-        row.newest = NO_ROW;
+        row.bucket = NO_ROW;
+        row.chain = (x + 1) as u16;
     }
 }
 
@@ -50,7 +53,7 @@ pub fn check<P: Copy>(
 }
 
 /// Puts an entry with the next ticket into a vacant row, and answers the row and the ticket.
-pub fn enter<P: Copy>(
+pub fn insert<P: Copy>(
     rows: &mut [Row<P>],
     ledger: &mut Ledger,
     deadline: u32,
@@ -65,20 +68,21 @@ pub fn enter<P: Copy>(
     ensures meant { meant rows.new ledger.exit.now ≡ entered (meant rows.old ledger.entry.now) deadline owner payload }
     ensures contents { contents rows.new ≡ slice_set (contents rows.old) result.0 (record { ticket = result.1; deadline = deadline; owner = owner; payload = payload }) }
     ensures links { (nexts rows.new ≡ nexts rows.old) × (prevs rows.new ≡ prevs rows.old) }
-    ensures chains { (newests rows.new ≡ slice_set (newests rows.old) (home_of (length rows.old) result.1) result.0) × (olders rows.new ≡ slice_set (olders rows.old) result.0 (slice_index (newests rows.old) (home_of (length rows.old) result.1))) }
+    ensures chains { (buckets rows.new ≡ slice_set (buckets rows.old) (bucket_of (length rows.old) result.1) result.0) × (chains rows.new ≡ slice_set (chains rows.old) result.0 (slice_index (buckets rows.old) (bucket_of (length rows.old) result.1))) }
+    ensures top { ledger.entry.now.vacant < length rows.old → slice_index (tickets rows.old) ledger.entry.now.vacant ≡ 0 → result.0 ≡ ledger.entry.now.vacant }
+    ensures popped { ledger.exit.now.vacant ≡ slice_index (chains rows.old) result.0 }
 {
-    let ticket = ledger.raise(owner);
-    let home = home(rows.len(), ticket);
-    let x = vacant(rows, home, ledger.vacated);
-    chain(rows, x, home);
+    let x = vacant_row(rows, ledger.vacant);
+    let ticket = ledger.raise(owner, rows[x].chain);
+    chain(rows, x, bucket_of(rows.len(), ticket));
     let row = rows[x];
     rows[x] = Row {
         ticket,
         deadline,
         next: row.next,
         prev: row.prev,
-        newest: row.newest,
-        older: row.older,
+        bucket: row.bucket,
+        chain: row.chain,
         owner,
         payload,
     };
@@ -86,19 +90,23 @@ pub fn enter<P: Copy>(
 }
 
 /// Gives up the entry of a row.
-pub fn leave<P: Copy>(rows: &mut [Row<P>], ledger: &mut Ledger, x: usize)
+pub fn remove<P: Copy>(rows: &mut [Row<P>], ledger: &mut Ledger, x: usize)
     requires kept { Kept rows.old ledger.now }
     requires live { (x < length rows.old) × (slice_index (tickets rows.old) x ≢ 0) }
     ensures kept { Kept rows.new ledger.exit.now }
     ensures meant { meant rows.new ledger.exit.now ≡ with_pending (meant rows.old ledger.entry.now) (without (slice_index (tickets rows.old) x) (entries rows.old)) }
     ensures contents { (d : Entry P) → contents rows.new ≡ slice_set (contents rows.old) x (vacated (slice_index_or (contents rows.old) x d)) }
     ensures links { (nexts rows.new ≡ nexts rows.old) × (prevs rows.new ≡ prevs rows.old) }
-    ensures newest { newests rows.new ≡ newests_without (newests rows.old) (olders rows.old) (home_of (length rows.old) (slice_index (tickets rows.old) x)) x }
-    ensures older { olders rows.new ≡ olders_without (newests rows.old) (olders rows.old) (home_of (length rows.old) (slice_index (tickets rows.old) x)) x }
-    ensures left { ledger.exit.now.vacated ≡ x }
+    ensures bucket { buckets rows.new ≡ buckets_without (buckets rows.old) (chains rows.old) (bucket_of (length rows.old) (slice_index (tickets rows.old) x)) x }
+    ensures chain { chains rows.new ≡ slice_set (chains_without (buckets rows.old) (chains rows.old) (bucket_of (length rows.old) (slice_index (tickets rows.old) x)) x) x ledger.entry.now.vacant }
+    ensures pushed { ledger.exit.now.vacant ≡ x }
 {
     unchain(rows, x);
     let row = rows[x];
-    rows[x] = Row { ticket: 0, ..row };
+    rows[x] = Row {
+        ticket: 0,
+        chain: ledger.vacant,
+        ..row
+    };
     ledger.lower(row.owner, x as u16);
 }

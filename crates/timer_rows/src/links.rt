@@ -1,10 +1,19 @@
 ghost use Rattle.std.specs.Prelude.{◌≡◌, ℕ, ◌+◌, ◌<◌, ◌≤◌, length, slice_index, slice_index_or, slice_set};
-ghost use Rattle.timer_rows.specs.Chains.{newests, olders};
+ghost use Rattle.timer_rows.specs.Buckets.{buckets, chains};
 ghost use Rattle.timer_rows.specs.Links.{ons, backs};
 ghost use Rattle.timer_rows.specs.Rows.{contents};
 
 use crate::ends::Ends;
 use crate::row::Row;
+
+/// The nodes beside a node of a slot.
+#[derive(Clone, Copy)]
+pub struct Neighbours {
+    /// The node after it.
+    pub next: u16,
+    /// The node before it.
+    pub prev: u16,
+}
 
 /// The sentinels of `N` slots; with n rows, the rows are the nodes from 0, and node n + s is the sentinel of slot s.
 #[derive(Clone, Copy, Drop)]
@@ -31,20 +40,24 @@ impl<const N: usize> Sentinels<N> {
         Sentinels { ends }
     }
 
-    /// The nodes beside a node: the one after it is the head, the one before it the tail.
-    pub fn beside<P: Copy>(&self, rows: &[Row<P>], node: u16) -> Ends
+    /// The nodes before and after a node.
+    pub fn neighbours<P: Copy>(&self, rows: &[Row<P>], node: u16) -> Neighbours
         requires { node < length rows.now + N }
-        ensures after { result.head ≡ slice_index (ons rows.now self.now.ends) node }
-        ensures before { result.tail ≡ slice_index (backs rows.now self.now.ends) node }
+        ensures next { result.next ≡ slice_index (ons rows.now self.now.ends) node }
+        ensures prev { result.prev ≡ slice_index (backs rows.now self.now.ends) node }
     {
         let i = node as usize;
         if i < rows.len() {
-            Ends {
-                head: rows[i].next,
-                tail: rows[i].prev,
+            Neighbours {
+                next: rows[i].next,
+                prev: rows[i].prev,
             }
         } else {
-            self.ends[i - rows.len()]
+            let sentinel = self.ends[i - rows.len()];
+            Neighbours {
+                next: sentinel.head,
+                prev: sentinel.tail,
+            }
         }
     }
 
@@ -61,7 +74,7 @@ impl<const N: usize> Sentinels<N> {
         ensures ons { ons rows.new self.new.ends ≡ slice_set (ons rows.old self.old.ends) node to }
         ensures backs { backs rows.new self.new.ends ≡ backs rows.old self.old.ends }
         ensures contents { contents rows.new ≡ contents rows.old }
-        ensures chains { (newests rows.new ≡ newests rows.old) × (olders rows.new ≡ olders rows.old) }
+        ensures chains { (buckets rows.new ≡ buckets rows.old) × (chains rows.new ≡ chains rows.old) }
     {
         let i = node as usize;
         if i < rows.len() {
@@ -76,7 +89,7 @@ impl<const N: usize> Sentinels<N> {
         ensures ons { ons rows.new self.new.ends ≡ ons rows.old self.old.ends }
         ensures backs { backs rows.new self.new.ends ≡ slice_set (backs rows.old self.old.ends) node to }
         ensures contents { contents rows.new ≡ contents rows.old }
-        ensures chains { (newests rows.new ≡ newests rows.old) × (olders rows.new ≡ olders rows.old) }
+        ensures chains { (buckets rows.new ≡ buckets rows.old) × (chains rows.new ≡ chains rows.old) }
     {
         let i = node as usize;
         if i < rows.len() {
@@ -86,41 +99,39 @@ impl<const N: usize> Sentinels<N> {
         }
     }
 
-    /// Takes a row out of its slot: the nodes beside it are linked to each other.
-    pub fn unlink<P: Copy>(&mut self, rows: &mut [Row<P>], x: u16)
+    /// Takes a row out of its slot: its neighbours are linked to each other.
+    pub(crate) fn unlink<P: Copy>(&mut self, rows: &mut [Row<P>], x: u16)
         requires node { x < length rows.old + N }
         requires after { slice_index (ons rows.old self.old.ends) x < length rows.old + N }
         requires before { slice_index (backs rows.old self.old.ends) x < length rows.old + N }
         ensures ons { ons rows.new self.new.ends ≡ slice_set (ons rows.old self.old.ends) (slice_index (backs rows.old self.old.ends) x) (slice_index (ons rows.old self.old.ends) x) }
         ensures backs { backs rows.new self.new.ends ≡ slice_set (backs rows.old self.old.ends) (slice_index (ons rows.old self.old.ends) x) (slice_index (backs rows.old self.old.ends) x) }
         ensures contents { contents rows.new ≡ contents rows.old }
-        ensures chains { (newests rows.new ≡ newests rows.old) × (olders rows.new ≡ olders rows.old) }
+        ensures chains { (buckets rows.new ≡ buckets rows.old) × (chains rows.new ≡ chains rows.old) }
     {
-        let Ends {
-            head: after,
-            tail: before,
-        } = self.beside(rows, x);
-        self.set_next(rows, before, after);
-        self.set_prev(rows, after, before);
+        let Neighbours { next, prev } = self.neighbours(rows, x);
+        self.set_next(rows, prev, next);
+        self.set_prev(rows, next, prev);
     }
 
     /// Puts a row that is in no slot before a node.
-    pub fn link<P: Copy>(&mut self, rows: &mut [Row<P>], x: u16, node: u16)
+    pub(crate) fn link<P: Copy>(&mut self, rows: &mut [Row<P>], x: u16, node: u16)
         requires nodes { (x < length rows.old + N) × (node < length rows.old + N) }
         requires before { slice_index (backs rows.old self.old.ends) node < length rows.old + N }
         ensures ons { ons rows.new self.new.ends ≡ slice_set (slice_set (ons rows.old self.old.ends) (slice_index (backs rows.old self.old.ends) node) x) x node }
         ensures backs { backs rows.new self.new.ends ≡ slice_set (slice_set (backs rows.old self.old.ends) node x) x (slice_index (backs rows.old self.old.ends) node) }
         ensures contents { contents rows.new ≡ contents rows.old }
-        ensures chains { (newests rows.new ≡ newests rows.old) × (olders rows.new ≡ olders rows.old) }
+        ensures chains { (buckets rows.new ≡ buckets rows.old) × (chains rows.new ≡ chains rows.old) }
     {
-        let before = self.beside(rows, node).tail;
+        let before = self.neighbours(rows, node).prev;
         self.set_next(rows, before, x);
         self.set_next(rows, x, node);
         self.set_prev(rows, node, x);
         self.set_prev(rows, x, before);
     }
 
-    fn last<P: Copy>(&self, rows: &[Row<P>], slot: usize) -> u16
+    /// The last row of a slot, or its sentinel.
+    pub fn last<P: Copy>(&self, rows: &[Row<P>], slot: usize) -> u16
         requires { slot < N }
         ensures { result ≡ slice_index (backs rows.now self.now.ends) (length rows.now + slot) }
     {
@@ -138,7 +149,7 @@ impl<const N: usize> Sentinels<N> {
     /// Puts a row that is in no slot at the end of a slot.
     ///
     /// It does what `link` does before the slot's sentinel, without asking of which kind that node is.
-    pub fn push<P: Copy>(&mut self, rows: &mut [Row<P>], x: u16, slot: usize)
+    pub(crate) fn push<P: Copy>(&mut self, rows: &mut [Row<P>], x: u16, slot: usize)
         requires few { length rows.old + N ≤ 65535 }
         requires slot { slot < N }
         requires row { x < length rows.old }
@@ -146,7 +157,7 @@ impl<const N: usize> Sentinels<N> {
         ensures ons { ons rows.new self.new.ends ≡ slice_set (slice_set (ons rows.old self.old.ends) (slice_index (backs rows.old self.old.ends) (length rows.old + slot)) x) x (length rows.old + slot) }
         ensures backs { backs rows.new self.new.ends ≡ slice_set (slice_set (backs rows.old self.old.ends) (length rows.old + slot) x) x (slice_index (backs rows.old self.old.ends) (length rows.old + slot)) }
         ensures contents { contents rows.new ≡ contents rows.old }
-        ensures chains { (newests rows.new ≡ newests rows.old) × (olders rows.new ≡ olders rows.old) }
+        ensures chains { (buckets rows.new ≡ buckets rows.old) × (chains rows.new ≡ chains rows.old) }
     {
         let sentinel = (rows.len() + slot) as u16;
         let last = self.last(rows, slot);

@@ -10,14 +10,14 @@ pub struct Row<P> {
     pub ticket: u32,
     /// The tick in which the entry is due.
     pub deadline: u32,
-    /// The node after this one in its slot.
+    /// The next node of the entry's slot; in a heap, the row of the entry at the position that has this row's number.
     pub next: u16,
-    /// The node before this one in its slot.
+    /// The previous node of the entry's slot; in a heap, the position of the entry in this row.
     pub prev: u16,
-    /// The row of the newest entry whose home this row is, or `NO_ROW`.
-    pub newest: u16,
-    /// The row of the next older entry with the same home as the one in this row, or `NO_ROW`.
-    pub older: u16,
+    /// The first row of the bucket that has this row's number, or `NO_ROW`.
+    pub bucket: u16,
+    /// The next row of the entry's bucket, or `NO_ROW`; in a vacant row, the next one on the stack of vacant rows.
+    pub chain: u16,
     /// The entry's owner.
     pub owner: u8,
     /// What the caller of `start` handed over.
@@ -27,15 +27,15 @@ pub struct Row<P> {
 impl<P: Copy> Row<P> {
     /// A vacant row; the payload only fills its place.
     pub fn vacant(payload: P) -> Row<P>
-        ensures { result ≡ record { ticket = 0; deadline = 0; next = 0; prev = 0; newest = 65535; older = 65535; owner = 0; payload = payload } }
+        ensures { result ≡ record { ticket = 0; deadline = 0; next = 0; prev = 0; bucket = 65535; chain = 65535; owner = 0; payload = payload } }
     {
         Row {
             ticket: 0,
             deadline: 0,
             next: 0,
             prev: 0,
-            newest: NO_ROW,
-            older: NO_ROW,
+            bucket: NO_ROW,
+            chain: NO_ROW,
             owner: 0,
             payload,
         }

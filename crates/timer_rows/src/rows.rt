@@ -2,7 +2,7 @@ ghost use Rattle.std.specs.Prelude.{◌≡◌, ℕ, ◌<◌, ◌≤◌, ◌≢�
 ghost use Rattle.timer.specs.Rules.{find};
 ghost use Rattle.timer_rows.specs.Rows.{used, tickets, entries, Sought};
 
-use crate::chains::{chained, home};
+use crate::buckets::{bucket_of, find_chained};
 use crate::row::Row;
 
 /// How many of the rows that were lent a store uses: all of them, but at most 4,096.
@@ -43,10 +43,10 @@ pub fn row_of<P: Copy>(rows: &[Row<P>], ticket: u32) -> Option<usize>
     if ticket == 0 {
         return None;
     }
-    if let Some(x) = chained(rows, ticket) {
+    if let Some(x) = find_chained(rows, ticket) {
         return Some(x);
     }
-    seek_from(rows, ticket, home(rows.len(), ticket))
+    seek_from(rows, ticket, bucket_of(rows.len(), ticket))
 }
 
 // Whether there is such a row, and it is vacant.
@@ -57,21 +57,16 @@ fn is_vacant<P: Copy>(rows: &[Row<P>], x: usize) -> bool
     rows.get(x).is_some_and(|row| row.ticket == 0)
 }
 
-/// A vacant row for an entry: its home, or the row that was left last, or else the first one from the home on.
+/// A vacant row: the one on top of the stack of vacant rows, or, if that row is not vacant, the first one that is.
 #[tactic(auto, using(crate::proofs::Asked::sought_room))]
-pub fn vacant<P: Copy>(rows: &[Row<P>], home: usize, left: u16) -> usize
-    requires home { home < length rows.now }
+pub fn vacant_row<P: Copy>(rows: &[Row<P>], top: u16) -> usize
     requires room { length (entries rows.now) ≢ length rows.now }
     ensures row { (result < length rows.now) × (slice_index (tickets rows.now) result ≡ 0) }
-    ensures home { slice_index (tickets rows.now) home ≡ 0 → result ≡ home }
-    ensures left { slice_index (tickets rows.now) home ≢ 0 → left < length rows.now → slice_index (tickets rows.now) left ≡ 0 → result ≡ left }
+    ensures top { top < length rows.now → slice_index (tickets rows.now) top ≡ 0 → result ≡ top }
 {
-    if rows[home].ticket == 0 {
-        return home;
+    let top = usize::from(top);
+    if is_vacant(rows, top) {
+        return top;
     }
-    let left = usize::from(left);
-    if is_vacant(rows, left) {
-        return left;
-    }
-    seek_from(rows, 0, home).unwrap()
+    seek_from(rows, 0, 0).unwrap()
 }

@@ -1,5 +1,6 @@
 pub mod Places
 pub mod Levels
-pub mod Homes
-pub mod Pours
-pub mod Entering
+pub mod Emptying
+pub mod Dues
+pub mod Cascading
+pub mod Layouts

@@ -1,4 +1,6 @@
 pub mod Place
+pub mod Cascade
+pub mod Layout
 pub mod Placed
-pub mod Pouring
+pub mod Emptying
 pub mod Once

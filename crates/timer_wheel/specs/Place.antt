@@ -1,13 +1,19 @@
 -- Where an entry lies on a wheel of four levels of 64 slots.
 -- A tick is a number of four digits in base 64, digit 0 the lowest.
-use Rattle.std.specs.Prelude.{◌≡◌, ℕ, ◌+◌, ◌*◌, ◌/◌, ◌%◌, ◌^◌, Bool, if◌then◌else◌, ◌==◌}
+use Rattle.std.specs.Prelude.{◌≡◌, ℕ, ◌+◌, ◌*◌, ◌/◌, ◌%◌, ◌^◌, ◌<◌, ◌≢◌, Bool, if◌then◌else◌, ◌==◌}
 
 abbrev pub digit : ℕ → ℕ → ℕ
-digit j t = t / 64 ^ j % 64
+digit k t = t / 64 ^ k % 64
 
--- a and b agree in digit j and in all above it
+-- k is the highest digit in which a and b differ: every digit above is equal, this one is not; where a and b are equal, k is 0
+pub record Highest (k a b : ℕ) : Type 0 where
+  pub above : (j : ℕ) → k < j → digit j a ≡ digit j b
+  pub here : a ≢ b → digit k a ≢ digit k b
+  pub nowhere : a ≡ b → k ≡ 0
+
+-- a and b agree in digit k and in all above it
 abbrev pub alike : ℕ → ℕ → ℕ → Bool
-alike j a b = a / 64 ^ j == b / 64 ^ j
+alike k a b = a / 64 ^ k == b / 64 ^ k
 
 -- an entry lies on the level of the highest digit in which its deadline differs from the tick, and on level 0 where none does:
 -- the deadline 100, in digits 1 36, lies on level 1 at tick 0, and on level 0 at tick 64, in digits 1 0;
@@ -23,23 +29,23 @@ slot tick deadline = digit (level tick deadline) deadline
 abbrev pub place : ℕ → ℕ → ℕ
 place tick deadline = 64 * level tick deadline + slot tick deadline
 
--- the highest level k such that the digits 0 to k - 1 of t are zero
-abbrev pub lift : ℕ → ℕ
-lift t = if t % 64 == 0 then (if t % 4096 == 0 then (if t % 262144 == 0 then 3 else 2) else 1) else 0
+-- the highest level k such that the digits 0 to k - 1 of t are zero: of 4096, in digits 1 0 0, level 2
+abbrev pub cascade_level : ℕ → ℕ
+cascade_level t = if t % 64 == 0 then (if t % 4096 == 0 then (if t % 262144 == 0 then 3 else 2) else 1) else 0
 
--- the slot of t's own digit on that level, which is emptied as the tick becomes t: all slots of the lower levels are empty then
-abbrev pub source : ℕ → ℕ
-source t = 64 * lift t + digit (lift t) t
+-- the place of t's own digit on that level, whose slot is emptied as the tick becomes t: all slots of the lower levels are empty then
+abbrev pub cascade_place : ℕ → ℕ
+cascade_place t = 64 * cascade_level t + digit (cascade_level t) t
 
 -- the same, folded: what is stated of rows names these
 unfoldable pub place_of : ℕ → ℕ → ℕ
 place_of tick deadline = place tick deadline
 
-unfoldable pub lift_of : ℕ → ℕ
-lift_of t = lift t
+unfoldable pub cascade_level_of : ℕ → ℕ
+cascade_level_of t = cascade_level t
 
-unfoldable pub source_of : ℕ → ℕ
-source_of t = source t
+unfoldable pub cascade_place_of : ℕ → ℕ
+cascade_place_of t = cascade_place t
 
 -- the examples above
 abbrev pub Examples : Type 0
@@ -50,3 +56,9 @@ Examples =
     × ((level 4095 4096 ≡ 2) × (slot 4095 4096 ≡ 1))
     × (place 0 100 ≡ 65)
     × (place 4095 4096 ≡ 129)
+    × (cascade_level 4096 ≡ 2)
+    × (cascade_place 4096 ≡ 129)
+
+-- in digits 0 0 and 1 36 differ in both; 1 0 and 1 36 in the lower; 0 63 63 and 1 0 0 in all; and 1 36 and 1 36 in none
+abbrev pub HighestExamples : Type 0
+HighestExamples = Highest 1 0 100 × Highest 0 64 100 × Highest 2 4095 4096 × Highest 0 100 100

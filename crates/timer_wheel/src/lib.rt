@@ -1,6 +1,6 @@
 #![tactic(auto)]
 
 mod cascade;
-mod links;
+pub mod layout;
 pub mod place;
 pub mod wheel;

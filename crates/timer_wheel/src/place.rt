@@ -1,42 +1,70 @@
-ghost use Rattle.std.specs.Prelude.{◌≡◌, ◌+◌, ◌*◌, ◌%◌, ◌<◌, if◌then◌else◌, Some, None, nat_eq};
-ghost use Rattle.timer_wheel.specs.Place.{digit, place, source, Examples};
+ghost use Rattle.std.specs.Prelude.{◌≡◌, ◌+◌, ◌*◌, ◌/◌, ◌%◌, ◌<◌, ◌≤◌, if◌then◌else◌, Some, None, nat_eq};
+ghost use Rattle.timer_wheel.specs.Cascade.{Examples as CascadeExamples};
+ghost use Rattle.timer_wheel.specs.Place.{digit, level, place, cascade_level, cascade_place, Highest, Examples, HighestExamples};
 
-// The slot of a tick's digit on a level.
+use crate::wheel::LAST_TICK;
+
+const DIGIT_BITS: u32 = 6;
+
+pub(crate) const SLOTS: u32 = 64;
+
+pub(crate) const LEVELS: u32 = 4;
+
+// The level of an entry with this deadline: that of the highest digit in which its deadline differs from now.
+#[tactic(auto, using(std::proofs::lemmas::Nat::le_or_r, crate::proofs::Levels::log_level, crate::proofs::Levels::level_highest))]
+fn level(now: u32, deadline: u32) -> u32
+    ensures value { result ≡ level now deadline }
+    ensures highest { now ≤ LAST_TICK → deadline ≤ LAST_TICK → Highest result now deadline }
+{
+    (((now ^ deadline) | 1).ilog2() / DIGIT_BITS).min(LEVELS - 1)
+}
+
+// The digit of a tick on a level, which is its slot there.
 #[tactic(auto, using(crate::proofs::Levels::six_bits))]
-fn slot(level: u32, tick: u32) -> u8
+fn digit(level: u32, tick: u32) -> u32
+    requires { level < 4 }
+    ensures { result ≡ digit level tick }
+{
+    (tick >> (DIGIT_BITS * level)) % SLOTS
+}
+
+// The place of a tick's slot on a level: the slots are numbered through, level by level.
+fn place_on(level: u32, tick: u32) -> usize
     requires { level < 4 }
     ensures { result ≡ 64 * level + digit level tick }
 {
-    (64 * level + (tick >> (6 * level)) % 64) as u8
+    (SLOTS * level + digit(level, tick)) as usize
 }
 
-/// The slot of an entry with this deadline at this tick: 64 times its level, and then the deadline's digit of that level.
-#[tactic(auto, using(crate::proofs::Levels::six_bits, crate::proofs::Levels::place_at))]
-pub fn place(tick: u32, deadline: u32) -> u8
-    ensures value { result ≡ place tick deadline }
+/// The place of an entry with this deadline, on the level of the highest digit in which its deadline differs from now, in the slot of that digit.
+#[tactic(auto, using(crate::proofs::Levels::highest_examples))]
+pub fn place(now: u32, deadline: u32) -> usize
+    ensures value { result ≡ place now deadline }
+    ensures highest { now ≤ LAST_TICK → deadline ≤ LAST_TICK → Highest (result / 64) now deadline }
+    ensures slot { result % 64 ≡ digit (result / 64) deadline }
     ensures examples { Examples }
+    ensures highest_examples { HighestExamples }
 {
-    for level in 0..3 {
-        let above = 6 * (level + 1);
-        if tick >> above == deadline >> above {
-            return slot(level, deadline);
-        }
-    }
-    slot(3, deadline)
+    place_on(level(now, deadline), deadline)
 }
 
-/// The slot that is emptied as the tick becomes this one: that of its own digit, on the highest level below which all its digits are zero.
-#[tactic(auto, using(crate::proofs::Levels::six_bits, crate::proofs::Levels::source_at))]
-pub fn source(tick: u32) -> Option<u8>
-    ensures { result ≡ (if nat_eq (tick % 64) 0 then Some (source tick) else None) }
+// The highest level below which all digits of a tick are zero.
+#[tactic(auto, using(crate::proofs::Levels::trailing_level))]
+fn cascade_level(tick: u32) -> u32
+    ensures { result ≡ cascade_level tick }
 {
-    if tick % 64 != 0 {
+    (tick.trailing_zeros() / DIGIT_BITS).min(LEVELS - 1)
+}
+
+/// The place whose slot is emptied as the tick becomes this one: that of its own digit, on the highest level below which all its digits are zero.
+#[tactic(auto, using(crate::proofs::Cascading::examples))]
+pub fn cascade_place(tick: u32) -> Option<usize>
+    ensures value { result ≡ (if nat_eq (tick % 64) 0 then Some (cascade_place tick) else None) }
+    ensures examples { CascadeExamples }
+{
+    let level = cascade_level(tick);
+    if level == 0 {
         return None;
     }
-    for level in 1..3 {
-        if (tick >> (6 * level)) % 64 != 0 {
-            return Some(slot(level, tick));
-        }
-    }
-    Some(slot(3, tick))
+    Some(place_on(level, tick))
 }

@@ -3,14 +3,10 @@
 mod stores;
 mod task;
 
-use crate::stores::{Layers, over};
-use journal::compare::agree;
-use journal::note::{Effect, Kind, Note};
+use crate::stores::{Kind, Layer, agrees, agrees_under_two, limited_notes, notes_of, vacant};
+use journal::note::{Effect, Kind as NoteKind, Note};
 use journal::record::how_many;
 use timer::fault::TimerFault;
-use timer_heap::heap::HeapOrder;
-use timer_list::list::ListOrder;
-use timer_wheel::wheel::WheelOrder;
 
 fn main(rt: HostRuntime) -> anyhow::Result<()> {
     run(&rt)
@@ -19,47 +15,35 @@ fn main(rt: HostRuntime) -> anyhow::Result<()> {
 // Plays the task over the list and prints its journal; then over each other store, and under the quota, and prints whether they agree.
 fn run(rt: &HostRuntime) -> anyhow::Result<()> {
     let memory = rt.alloc();
-    let notes = over::<ListOrder>(Layers::Bare, memory)?;
+    let mut rows = vacant();
+    let notes = notes_of(&mut rows, &task::calls(), task::BUDGET, memory)?;
     println!(rt; "tick what ticket deadline owner payload")?;
     print_notes(rt, &notes, |effect| !matches!(effect, Effect::Advanced))?;
     print_end(rt, &notes)?;
-    compare(
-        rt,
-        "heap",
-        &notes,
-        &over::<HeapOrder>(Layers::Bare, memory)?,
-    )?;
+    let count = notes.len();
+    compare(rt, "heap", count, agrees(Kind::Heap, Layer::Bare, memory)?)?;
     compare(
         rt,
         "wheel",
-        &notes,
-        &over::<WheelOrder>(Layers::Bare, memory)?,
+        count,
+        agrees(Kind::Wheel, Layer::Bare, memory)?,
     )?;
     println!(rt; "under a quota of 3 for owner 9")?;
-    let limited = over::<ListOrder>(Layers::Quota, memory)?;
+    let limited = limited_notes(memory)?;
     print_notes(
         rt,
         &limited,
         |effect| matches!(effect, Effect::Refused(_, TimerFault::Limit)),
     )?;
-    compare(
-        rt,
-        "heap",
-        &limited,
-        &over::<HeapOrder>(Layers::Quota, memory)?,
-    )?;
+    let count = limited.len();
+    compare(rt, "heap", count, agrees(Kind::Heap, Layer::Quota, memory)?)?;
     compare(
         rt,
         "wheel",
-        &limited,
-        &over::<WheelOrder>(Layers::Quota, memory)?,
+        count,
+        agrees(Kind::Wheel, Layer::Quota, memory)?,
     )?;
-    compare(
-        rt,
-        "quota over quota",
-        &limited,
-        &over::<WheelOrder>(Layers::QuotaTwice, memory)?,
-    )
+    compare(rt, "quota over quota", count, agrees_under_two(memory)?)
 }
 
 // Prints the notes of the effects that are to be shown.
@@ -78,10 +62,10 @@ fn print_notes<F: Fn(&Effect) -> bool>(
 
 // Prints the closing line of a journal.
 fn print_end(rt: &HostRuntime, notes: &[Note]) -> anyhow::Result<()> {
-    let started = how_many(notes, Kind::Started);
-    let stopped = how_many(notes, Kind::Stopped);
-    let fired = how_many(notes, Kind::Fired);
-    let refused = how_many(notes, Kind::Refused);
+    let started = how_many(notes, NoteKind::Started);
+    let stopped = how_many(notes, NoteKind::Stopped);
+    let fired = how_many(notes, NoteKind::Fired);
+    let refused = how_many(notes, NoteKind::Refused);
     let pending = started.saturating_sub(stopped).saturating_sub(fired);
     let tick = notes.last().map_or(0, |note| note.tick);
     println!(rt;
@@ -90,13 +74,12 @@ fn print_end(rt: &HostRuntime, notes: &[Note]) -> anyhow::Result<()> {
     Ok(())
 }
 
-// Prints whether another journal has the same notes.
-fn compare(rt: &HostRuntime, name: &str, notes: &[Note], others: &[Note]) -> anyhow::Result<()> {
-    let count = others.len();
-    if agree(notes, others) {
+// Prints whether another store's notes are the same, as many as these.
+fn compare(rt: &HostRuntime, name: &str, count: usize, is_same: bool) -> anyhow::Result<()> {
+    if is_same {
         println!(rt; "{name}: the same {count} notes")?;
     } else {
-        println!(rt; "{name}: other notes, {count} of them")?;
+        println!(rt; "{name}: other notes")?;
     }
     Ok(())
 }

@@ -30,7 +30,7 @@ fresh m h =
 
 pub begins : Begins
 unfolding begin_check
-begins delay interval fate w r k records h fits =
+begins delay interval fate w r k records h sound =
     let a = or_else_none (bad_setting delay interval) Setting _ h in
     let b = or_else_none (apart w r || apart w k) Clocks _ a.1 in
     let c = or_else_none (used w || (used r || used k)) Used _ b.1 in
@@ -51,5 +51,5 @@ begins delay interval fate w r k records h fits =
       resend_clock = together w r clocks.0;
       keepalive_clock = together w k clocks.1;
       span = omega (arith, ltb-false (w.last - w.now) 60000 d.0);
-      fits = fits;
+      sound = sound;
     }

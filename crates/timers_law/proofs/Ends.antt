@@ -57,7 +57,7 @@ taken_calm {P} m e d =
 left_due : {P : Type 0} (m : Meaning P) (e : Entry P) → Within m → next_due m ≡ Some e → due_count (left m e) < due_count m
 left_due m e h d =
     let i = due_in m.now m.pending e d in
-    omega (arith, without_count (λ f. eqb f.deadline m.now) m.pending e h.rising i.0, ap {B = ℕ} (λ b. cond b 1 0) (eq-eqb e.deadline m.now i.1))
+    omega (arith, without_count (λ f. eqb f.deadline m.now) m.pending e h.sound.rising i.0, ap {B = ℕ} (λ b. cond b 1 0) (eq-eqb e.deadline m.now i.1))
 
 -- fewer are due in the same tick
 kept_falls : (s : State) (t a b c : ℕ) (p : Step) → a + b + c < all_due s → Kept (calm s a b c) no_events p → measure p.after t < measure s t

@@ -27,9 +27,9 @@ left_free m e h d l =
     let i = (due_in m.now m.pending e d).0 in
     let rest = without e.ticket m.pending in
     record {
-      room = omega (arith, without_count (λ _. true) m.pending e h.rising i, length_counts m.pending, length_counts rest, h.room);
+      room = omega (arith, without_count (λ _. true) m.pending e h.sound.rising i, length_counts m.pending, length_counts rest, h.room);
       allowed =
-          let c = rw (eq-eqb e.owner e.owner refl) at (without_count (λ f. eqb f.owner e.owner) m.pending e h.rising i) in
+          let c = rw (eq-eqb e.owner e.owner refl) at (without_count (λ f. eqb f.owner e.owner) m.pending e h.sound.rising i) in
           omega (arith, c, count_counts e.owner m.pending, count_counts e.owner rest, h.allowed e.owner l);
     }
 

@@ -1,7 +1,7 @@
 -- A rig is ready when it begins and after every call.
 use Rattle.std.proofs.Common.{◌≡◌, ℕ, ◌<◌, ◌≤◌, List, [], length, get_or, sym, refl, ◌∙◌, subst, arith}
 use Rattle.std.specs.List.{AllByRecursion}
-use Rattle.timer.specs.Meaning.{Entry, Meaning, Rising}
+use Rattle.timer.specs.Meaning.{Entry, Meaning, Sound}
 use Rattle.timer.specs.Rules.{Event, count, ticked}
 use Rattle.timer.specs.History.{Fresh}
 use Rattle.protocol.specs.State.{State}
@@ -15,15 +15,15 @@ use Rattle.timers_law.proofs.Calls.{rule_by}
 use Rattle.timers_law.proofs.Stores.{lasting, entered_within, left_within}
 use Rattle.timers_law.proofs.Ticks.{all_ticked, idle_far, tick_goes}
 
-fresh_within : {P : Type 0} (m : Meaning P) → Fresh m → Within m
-fresh_within {P} m f =
+fresh_within : {P : Type 0} (m : Meaning P) → Sound m → Fresh m → Within m
+fresh_within {P} m s f =
     let at : (B : List (Entry P) → Type 0) → B [] → B m.pending = λ B b. subst B (sym f.empty) b in
     record {
+      sound = s;
       room = at (λ es. length es ≤ m.capacity) (omega arith);
       allowed = λ o l. at (λ es. count o es ≤ get_or m.limits o 0) (omega arith);
       known = at (AllByRecursion (λ e. e.owner < 64)) tt;
       issued = at (AllByRecursion (λ e. e.ticket ≤ m.given)) tt;
-      rising = at Rising tt;
     }
 
 pub begun_ready : (s : State) → Begun s → Ready s
@@ -34,10 +34,9 @@ begun_ready s b =
       resend_clock = b.resend_clock;
       keepalive_clock = b.keepalive_clock;
       span = b.span;
-      fits = b.fits;
-      wire = fresh_within s.wire b.wire;
-      resend = fresh_within s.resend b.resend;
-      keepalive = fresh_within s.keepalive b.keepalive;
+      wire = fresh_within s.wire b.sound.wire b.wire;
+      resend = fresh_within s.resend b.sound.resend b.resend;
+      keepalive = fresh_within s.keepalive b.sound.keepalive b.keepalive;
     }
 
 -- in one tick
@@ -83,29 +82,34 @@ kept_ready s r p h =
       resend_clock = record { tick = h.resend.0 ∙ sym h.wire.0; last = h.resend.1 ∙ sym h.wire.1 };
       keepalive_clock = record { tick = h.keepalive.0 ∙ sym h.wire.0; last = h.keepalive.1 ∙ sym h.wire.1 };
       span = omega (arith, h.wire.0, h.wire.1, r.span);
-      fits = omega (arith, h.wire.1, r.fits);
       wire = h.wire.2;
       resend = h.resend.2;
       keepalive = h.keepalive.2;
     }
 
 -- a tick later
-ticked_within : {P : Type 0} (m : Meaning P) → Within m → Within (ticked m)
-ticked_within m h =
-    record { room = h.room; allowed = h.allowed; known = h.known; issued = h.issued; rising = h.rising }
+ticked_within : {P : Type 0} (m : Meaning P) → m.now < m.last → Within m → Within (ticked m)
+ticked_within m l h =
+    record {
+      sound = record { clock = omega arith; fits = h.sound.fits; limited = h.sound.limited; rising = h.sound.rising };
+      room = h.room;
+      allowed = h.allowed;
+      known = h.known;
+      issued = h.issued;
+    }
 
 pub ticked_ready : (s : State) → Ready s → Idle s → Ready (all_ticked s)
 ticked_ready s r i =
+    let far = idle_far s r i in
     record {
       some = r.some;
       most = r.most;
       resend_clock = record { tick = omega (arith, r.resend_clock.tick); last = r.resend_clock.last };
       keepalive_clock = record { tick = omega (arith, r.keepalive_clock.tick); last = r.keepalive_clock.last };
-      span = omega (arith, idle_far s r i);
-      fits = r.fits;
-      wire = ticked_within s.wire r.wire;
-      resend = ticked_within s.resend r.resend;
-      keepalive = ticked_within s.keepalive r.keepalive;
+      span = omega arith;
+      wire = ticked_within s.wire (omega arith) r.wire;
+      resend = ticked_within s.resend (omega (arith, r.resend_clock.tick, r.resend_clock.last)) r.resend;
+      keepalive = ticked_within s.keepalive (omega (arith, r.keepalive_clock.tick, r.keepalive_clock.last)) r.keepalive;
     }
 
 pub rule_ready : (s : State) (x : Operation) → Ready s → Ready (rule s x).after

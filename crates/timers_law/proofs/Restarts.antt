@@ -79,7 +79,7 @@ module _ (s : State) (r : Ready s) (fresh : low s ≡ false) where
       or_store_by Grants Resend (restart_resend t o a).answer (resend_packet t o a).after (resend_started t o a)
       (λ f q. absurd
       (start_grants (left s.resend e) (in_ticks t (wait_of t o (again a))) o (again a) f (left_free s.resend e r.resend d known)
-      (omega (arith, some, r.resend_clock.tick, r.span, r.fits)) (omega (arith, r.resend_clock.last, r.span, r.fits)) known unworn.0 q))
+      (omega (arith, some, r.resend_clock.tick, r.span, r.wire.sound.fits)) (omega (arith, r.resend_clock.last, r.span, r.wire.sound.fits)) known unworn.0 q))
       (λ n _. acted _))
       (λ _. acted _)
 
@@ -94,7 +94,7 @@ module _ (s : State) (r : Ready s) (fresh : low s ≡ false) where
       or_store_by Grants Keepalive (start_keepalive t o).answer (beat_packet t o).after (beat_started t o)
       (λ f q. absurd
       (start_grants (left s.keepalive e) (in_ticks t s.interval) o o f (left_free s.keepalive e r.keepalive d known)
-      (omega (arith, r.some, r.keepalive_clock.tick, r.span, r.fits)) (omega (arith, r.most, r.keepalive_clock.last, r.span, r.fits)) known unworn.1 q))
+      (omega (arith, r.some, r.keepalive_clock.tick, r.span, r.wire.sound.fits)) (omega (arith, r.most, r.keepalive_clock.last, r.span, r.wire.sound.fits)) known unworn.1 q))
       (λ n _. acted _))
       (λ _. acted _)
 

@@ -44,6 +44,14 @@ pub entered_within : {P : Type 0} (m : Meaning P) (deadline owner : ℕ) (payloa
 entered_within {P} m deadline owner payload k h =
     let e : Entry P = record { ticket = m.given + 1; deadline = deadline; owner = owner; payload = payload } in
     record {
+      sound =
+          record {
+            clock = h.sound.clock;
+            fits = h.sound.fits;
+            limited = h.sound.limited;
+            rising = rising_push m.pending e h.sound.rising
+                (All-weaker (λ f. f.ticket ≤ m.given) (λ f. f.ticket < m.given + 1) (λ f q. omega arith) m.pending h.issued);
+          };
       room = let n : length m.pending ≡ m.capacity → ⊥ = k.room in omega (arith, length_push m.pending e, h.room);
       allowed = λ o l.
           let c = count_push o m.pending e in
@@ -53,8 +61,6 @@ entered_within {P} m deadline owner payload k h =
       known = All-push (λ f. f.owner < 64) m.pending e h.known k.known;
       issued = All-push (λ f. f.ticket ≤ m.given + 1) m.pending e
           (All-weaker (λ f. f.ticket ≤ m.given) (λ f. f.ticket ≤ m.given + 1) (λ f q. omega arith) m.pending h.issued) (omega arith);
-      rising = rising_push m.pending e h.rising
-          (All-weaker (λ f. f.ticket ≤ m.given) (λ f. f.ticket < m.given + 1) (λ f q. omega arith) m.pending h.issued);
     }
 
 all_without : {P : Type 0} (Q : Entry P → Type 0) (t : ℕ) (es : List (Entry P)) → AllByRecursion Q es → AllByRecursion Q (without t es)
@@ -64,10 +70,16 @@ pub left_within : {P : Type 0} (m : Meaning P) (e : Entry P) → Within m → Wi
 left_within m e h =
     let rest = without e.ticket m.pending in
     record {
+      sound =
+          record {
+            clock = h.sound.clock;
+            fits = h.sound.fits;
+            limited = h.sound.limited;
+            rising = rising_without e.ticket m.pending h.sound.rising;
+          };
       room = omega (arith, without_le (λ _. true) e.ticket m.pending, length_counts m.pending, length_counts rest, h.room);
       allowed = λ o l.
           omega (arith, without_le (λ f. eqb f.owner o) e.ticket m.pending, count_counts o m.pending, count_counts o rest, h.allowed o l);
       known = all_without (λ f. f.owner < 64) e.ticket m.pending h.known;
       issued = all_without (λ f. f.ticket ≤ m.given) e.ticket m.pending h.issued;
-      rising = rising_without e.ticket m.pending h.rising;
     }

@@ -48,7 +48,7 @@ pub idle_far : (s : State) → Ready s → Idle s → s.wire.now + 60000 < s.wir
 idle_far s r i =
     elim (and_cases (not (any_due s)) (leb (last_of s) (in_ticks s 60000)) i.more) [
       | inl h ↦ absurd (both_ways (any_due s) (nothing_due s i) (not-false (any_due s) h))
-      | inr h ↦ omega (arith, leb-false (last_of s) (in_ticks s 60000) h, r.fits)
+      | inr h ↦ omega (arith, leb-false (last_of s) (in_ticks s 60000) h, r.wire.sound.fits)
     ]
 
 pub tick_goes : (s : State) → Ready s → Idle s → tick_rule s ≡ give Advanced (all_ticked s)

@@ -29,7 +29,7 @@ pub fn steps_end() -> u8
     0
 }
 
-/// A session that is not refused begins with fresh stores, one clock and an unused table.
+/// A session over sound stores that is not refused begins with fresh stores, one clock and an unused table.
 pub fn sessions_begin() -> u8
     ensures { Begins }
 {

@@ -1,5 +1,5 @@
 ghost use Rattle.std.specs.Prelude.{◌≡◌, ◌≤◌, ◌||◌, length, if◌then◌else◌, Some, None, OnOk};
-ghost use Rattle.protocol.specs.Begin.{bad_setting, apart, used, brief, begin_check};
+ghost use Rattle.protocol.specs.Begin.{bad_setting, apart, used, begin_check};
 ghost use Rattle.transport.specs.Begins.{Adds, unless_refused, Begins};
 
 use crate::rig::{CHANNELS, Draft, Refused, Running};
@@ -55,14 +55,6 @@ impl<W: Store<Packet>, R: Store<Attempt>, K: Store<u8>> Stores<'_, W, R, K> {
     }
 }
 
-// Whether the last tick is too near.
-fn brief<P, S: Store<P>>(store: &S) -> bool
-    ensures value { result ≡ brief (S.meaning store.now) }
-    ensures fits { (S.meaning store.now).last ≤ 4294967295 }
-{
-    store.last().saturating_sub(store.now()) < LEAST_SPAN
-}
-
 impl Draft {
     /// A draft with a default delay and an interval of keepalives, both in ticks, and no fates.
     pub fn new(delay: u32, interval: u32) -> Draft
@@ -105,7 +97,6 @@ impl Draft {
     ) -> Result<u16, RigFault>
         ensures value { result ≡ unless_refused (begin_check self.now.delay self.now.interval (W.meaning stores.now.wire.now) (R.meaning stores.now.resend.now) (K.meaning stores.now.keepalive.now) records) self.now.delay }
         ensures room { OnOk result (64 ≤ records) }
-        ensures fits { OnOk result ((W.meaning stores.now.wire.now).last ≤ 4294967295) }
     {
         let delay = self.setting().ok_or(RigFault::Setting)?;
         if stores.apart() {
@@ -114,7 +105,7 @@ impl Draft {
         if stores.used() {
             return Err(RigFault::Used);
         }
-        if brief(stores.wire) {
+        if stores.wire.last().saturating_sub(stores.wire.now()) < LEAST_SPAN {
             return Err(RigFault::Span);
         }
         if records < CHANNELS {
@@ -131,8 +122,7 @@ impl Draft {
         keepalive: &K,
         table: &mut [Channel],
     ) -> Result<Running, Refused>
-        ensures begins { Begins (begin_check self.delay self.interval (W.meaning wire.now) (R.meaning resend.now) (K.meaning keepalive.now) (length table.old)) self table.old result table.new }
-        ensures fits { OnOk result ((W.meaning wire.now).last ≤ 4294967295) }
+        ensures { Begins (begin_check self.delay self.interval (W.meaning wire.now) (R.meaning resend.now) (K.meaning keepalive.now) (length table.old)) self table.old result table.new }
     {
         let stores = Stores {
             wire,

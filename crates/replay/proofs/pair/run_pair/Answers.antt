@@ -1,5 +1,5 @@
 use Rattle.replay.specs.Lent.{Held, held}
-use Rattle.replay.proofs.Pairs.{Sized, indistinguishable}
+use Rattle.replay.proofs.Pairs.{indistinguishable}
 use Rattle.replay.proofs.pair.run_pair.Goals as goal
 
 pub returns-clause-alike : goal.returns-clause-alike
@@ -8,6 +8,4 @@ returns-clause-alike g c =
     let m : Held = held g.X.Store g.S.Store g.L.Store c.args.other.now in
     let n : Held = held g.W.Store g.R.Store g.K.Store c.run-first.new.lent in
     let h : Held = held g.X.Store g.S.Store g.L.Store c.run-second.new.lent in
-    let u : Sized l = record { wire = (g.W.Store.sound c.args.lent.now.wire.now).limited; resend = (g.R.Store.sound c.args.lent.now.resend.now).limited; keepalive = (g.K.Store.sound c.args.lent.now.keepalive.now).limited } in
-    let v : Sized m = record { wire = (g.X.Store.sound c.args.other.now.wire.now).limited; resend = (g.S.Store.sound c.args.other.now.resend.now).limited; keepalive = (g.L.Store.sound c.args.other.now.keepalive.now).limited } in
-    indistinguishable c.args.draft c.args.other_draft c.args.commands.now l m c.run-first.result c.run-second.result n h u v c.run-first.ensures.outcome c.run-second.ensures.outcome
+    indistinguishable c.args.draft c.args.other_draft c.args.commands.now l m c.run-first.result c.run-second.result n h c.run-first.ensures.outcome c.run-second.ensures.outcome

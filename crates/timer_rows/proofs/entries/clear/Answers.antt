@@ -1,38 +1,41 @@
-use Rattle.std.proofs.Common.{◌≡◌, ℕ, ◌<◌, ◌≢◌, List, map, length, get_or, set, refl, ap, ◌∙◌, ⊎_elim, arith}
+use Rattle.std.proofs.Common.{◌≡◌, ℕ, ◌+◌, ◌<◌, ◌≢◌, List, map, length, get_or, set, sym, refl, ap, ◌∙◌, ⊎_elim, arith}
 use Rattle.std.proofs.lemmas.List.{get_or_past, length-map, map-set}
 use Rattle.std.proofs.lemmas.Bool.{cases_lt}
 use Rattle.timer_rows.specs.declared.row.Row.{Row}
-use Rattle.timer_rows.specs.Chains.{newests}
+use Rattle.timer_rows.specs.Buckets.{buckets}
 use Rattle.timer_rows.specs.Rows.{tickets}
 use Rattle.timer_rows.proofs.Columns.{set_cases}
 use Rattle.timer_rows.proofs.entries.clear.Goals as goal
 
 -- one field of the rows when one of them is written
-written : {P : Type 0} (f : Row P → ℕ) (rows : List (Row P)) (x : ℕ) (r : Row P) (k d : ℕ) → x < length rows → f r ≡ d → (k ≢ x → get_or (map f rows) k d ≡ d) → get_or (map f (set rows x r)) k d ≡ d
-written f rows x r k d l e o =
+written : {P : Type 0} (f : Row P → ℕ) (rows : List (Row P)) (x : ℕ) (r : Row P) (k d v : ℕ) → x < length rows → (k ≡ x → f r ≡ v) → (k ≢ x → get_or (map f rows) k d ≡ v) → get_or (map f (set rows x r)) k d ≡ v
+written f rows x r k d v l e o =
     ap (λ c. get_or c k d) (map-set f rows x r)
-    ∙ ⊎_elim (λ p. p.1 ∙ e) (λ p. p.1 ∙ o p.0) (set_cases (map f rows) x (f r) d k (omega (arith, length-map rows f)))
+    ∙ ⊎_elim (λ p. p.1 ∙ e p.0) (λ p. p.1 ∙ o p.0) (set_cases (map f rows) x (f r) d k (omega (arith, length-map rows f)))
 
-pub loop-row-preserved : goal.loop-row-preserved
-loop-row-preserved g c = λ k h.
-    let i = c.loop-row.row-index in
-    let l : c.loop-row.row-index < length c.loop-row.rows = omega arith in (
-      written (λ r. r.ticket) c.loop-row.rows i _ k 0 l refl (λ n. (c.loop-row.invariant k (omega arith)).0),
-      written (λ r. r.newest) c.loop-row.rows i _ k 65535 l refl (λ n. (c.loop-row.invariant k (omega arith)).1),
+pub loop-x-preserved : goal.loop-x-preserved
+loop-x-preserved g c = λ k h.
+    let rows = c.loop-x.rows in
+    let x = c.loop-x.x in
+    let l : c.loop-x.x < length c.loop-x.rows = omega arith in (
+      written (λ r. r.ticket) rows x _ k 0 0 l (λ e. refl) (λ n. (c.loop-x.invariant k (omega arith)).0),
+      written (λ r. r.bucket) rows x _ k 65535 65535 l (λ e. refl) (λ n. (c.loop-x.invariant k (omega arith)).1),
+      written (λ r. r.chain) rows x _ k 0 (k + 1) l (λ e. ap (λ i. i + 1) (sym e)) (λ n. (c.loop-x.invariant k (omega arith)).2),
     )
 
 pub returns : goal.returns
 returns g c =
-    let rows = c.loop-row.rows in
+    let rows = c.loop-x.rows in
     record {
       vacant = λ i.
           ⊎_elim
-          (λ (h : i < length c.loop-row.rows). (c.loop-row.invariant i (omega arith)).0)
+          (λ (h : i < length c.loop-x.rows). (c.loop-x.invariant i (omega arith)).0)
           (λ h. get_or_past (tickets rows) i 0 (omega (arith, length-map rows (λ r. r.ticket))))
           (cases_lt i (length rows));
-      chains = λ i.
+      buckets = λ i.
           ⊎_elim
-          (λ (h : i < length c.loop-row.rows). (c.loop-row.invariant i (omega arith)).1)
-          (λ h. get_or_past (newests rows) i 65535 (omega (arith, length-map rows (λ r. r.newest))))
+          (λ (h : i < length c.loop-x.rows). (c.loop-x.invariant i (omega arith)).1)
+          (λ h. get_or_past (buckets rows) i 65535 (omega (arith, length-map rows (λ r. r.bucket))))
           (cases_lt i (length rows));
+      stack = λ i h. (c.loop-x.invariant i (omega arith)).2;
     }

@@ -1,7 +1,8 @@
-use Rattle.std.proofs.Common.{◌≡◌, ℕ, ◌<◌, get_or}
-use Rattle.timer_rows.specs.Chains.{newests}
+use Rattle.std.proofs.Common.{◌≡◌, ℕ, ◌+◌, ◌<◌, get_or}
+use Rattle.timer_rows.specs.Buckets.{buckets, chains}
 use Rattle.timer_rows.specs.Rows.{tickets}
 use Rattle.timer_rows.proofs.entries.clear.Given as goal
 
-abbrev pub invariant-loop-row : goal.invariant-loop-row
-invariant-loop-row g l = (k : ℕ) → k < l.row-index → (get_or (tickets l.rows) k 0 ≡ 0) × (get_or (newests l.rows) k 65535 ≡ 65535)
+abbrev pub invariant-loop-x : goal.invariant-loop-x
+invariant-loop-x g l =
+    (k : ℕ) → k < l.x → (get_or (tickets l.rows) k 0 ≡ 0) × (get_or (buckets l.rows) k 65535 ≡ 65535) × (get_or (chains l.rows) k 0 ≡ k + 1)

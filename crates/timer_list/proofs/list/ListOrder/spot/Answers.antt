@@ -1,12 +1,12 @@
 use Rattle.std.proofs.Common.{◌<◌, ◌≤◌, length, sym, ◌∙◌, arith}
 use Rattle.std.proofs.lemmas.Bool.{ltb-true, ltb-false}
 use Rattle.timer_rows.proofs.Cells.{read_next, read_deadline}
-use Rattle.timer_list.proofs.Spots.{head_link, spot_begin, spot_step, spot_falls}
+use Rattle.timer_list.proofs.Spots.{spot_begin, spot_step, spot_falls}
 use Rattle.timer_list.proofs.list.ListOrder.spot.Goals as goal
 
 pub loop-node-init : goal.loop-node-init
 loop-node-init g c =
-    spot_begin c.args.rows.now c.args.self.now.slots.ends c.requires _ c.args.deadline (head_link c.args.rows.now c.args.self.now.slots.ends c.requires _)
+    spot_begin c.args.rows.now c.args.self.now.slots.ends c.requires _ c.args.deadline c.first-node.ensures
 
 pub returns-then-is_after : goal.returns-then-is_after
 returns-then-is_after g c =
