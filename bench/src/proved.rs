@@ -8,6 +8,7 @@ extern "C" {
     fn bench_fire(store: u32, timers: u32, rounds: u64) -> u64;
     fn bench_idle(store: u32, ticks: u64) -> u64;
     fn bench_start_stop(store: u32, pending: u32, operations: u64) -> u64;
+    fn bench_bursts(store: u32, rows: u32, pending: u32, burst: u32, bursts: u64) -> u64;
     fn bench_rig(store: u32, steps: u64) -> u64;
 }
 
@@ -34,6 +35,12 @@ pub fn sum(kind: Kind, workload: Workload) -> Sum {
             pending,
             operations,
         } => unsafe { bench_start_stop(store, pending, operations.into()) },
+        Workload::Bursts {
+            rows,
+            pending,
+            burst,
+            bursts,
+        } => unsafe { bench_bursts(store, rows, pending, burst, bursts.into()) },
     })
 }
 

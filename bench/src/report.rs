@@ -68,7 +68,7 @@ fn digits(number: f64) -> String {
     }
 }
 
-/// Prints by how much the time of each contender grew between the trials that have this in their titles.
+/// Prints by how much the time of each contender grew between trials of the same rounds that have this in their titles.
 pub fn growth(trials: &[Measured], from: &str, to: &str) {
     let named = |part: &str| trials.iter().find(|trial| trial.title.contains(part));
     let (Some(less), Some(more)) = (named(from), named(to)) else {
@@ -76,7 +76,6 @@ pub fn growth(trials: &[Measured], from: &str, to: &str) {
     };
     println!("\ngrowth from {} to {}", less.title, more.title);
     for (before, after) in less.figures.iter().zip(&more.figures) {
-        let factor = after.nanoseconds / before.nanoseconds;
-        println!("  {:32} {factor:8.2} times", before.name);
+        println!("  {:32} {:8.2} times", before.name, before.growth(after));
     }
 }

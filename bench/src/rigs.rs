@@ -140,10 +140,13 @@ fn over_heaps(steps: u64) -> Checksum {
     let mut wire = vec![heap::Row::vacant(Packet::NONE); WIRE_ROWS];
     let mut resend = vec![heap::Row::vacant(Attempt::NONE); RESEND_ROWS];
     let mut keepalive = vec![heap::Row::vacant(0); KEEPALIVE_ROWS];
+    let mut wire_nodes = vec![heap::Node::default(); WIRE_ROWS];
+    let mut resend_nodes = vec![heap::Node::default(); RESEND_ROWS];
+    let mut keepalive_nodes = vec![heap::Node::default(); KEEPALIVE_ROWS];
     session(
-        Heap::new(&mut wire, 0, LAST_TICK),
-        Heap::new(&mut resend, 0, LAST_TICK),
-        Heap::new(&mut keepalive, 0, LAST_TICK),
+        Heap::new(&mut wire, &mut wire_nodes, 0, LAST_TICK),
+        Heap::new(&mut resend, &mut resend_nodes, 0, LAST_TICK),
+        Heap::new(&mut keepalive, &mut keepalive_nodes, 0, LAST_TICK),
         steps,
     )
     .expect("a session over heaps")

@@ -1,8 +1,5 @@
 //! A timer store as the workloads use it.
 
-/// How many timers can be pending at once.
-pub const CAPACITY: usize = 4_096;
-
 /// How many owners there are.
 pub const OWNERS: u32 = 64;
 

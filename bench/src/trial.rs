@@ -46,7 +46,9 @@ impl Measured {
 pub struct Figure {
     /// The contender's name.
     pub name: &'static str,
-    /// Nanoseconds of CPU time per unit: the median of the rounds.
+    /// Nanoseconds of CPU time per unit in each round.
+    pub rounds: Vec<f64>,
+    /// Their median.
     pub nanoseconds: f64,
     /// The median of each round's ratio to the first contender.
     pub ratio: f64,
@@ -67,19 +69,34 @@ struct Rounds {
     right: bool,
 }
 
-fn median(sorted: &[f64]) -> f64 {
-    sorted[sorted.len() / 2]
+fn sorted(numbers: &[f64]) -> Vec<f64> {
+    let mut sorted = numbers.to_vec();
+    sorted.sort_by(f64::total_cmp);
+    sorted
+}
+
+fn median(numbers: &[f64]) -> f64 {
+    sorted(numbers)[numbers.len() / 2]
+}
+
+impl Figure {
+    /// How many times as long another trial took of the same contender, in rounds that both went through.
+    pub fn growth(&self, other: &Figure) -> f64 {
+        let rounds = self.rounds.iter().zip(&other.rounds);
+        let factors: Vec<f64> = rounds.map(|(before, after)| after / before).collect();
+        median(&factors)
+    }
 }
 
 impl Rounds {
-    fn figure(mut self, name: &'static str) -> Figure {
-        self.nanoseconds.sort_by(f64::total_cmp);
-        self.ratios.sort_by(f64::total_cmp);
+    fn figure(self, name: &'static str) -> Figure {
+        let ratios = sorted(&self.ratios);
         Figure {
             name,
             nanoseconds: median(&self.nanoseconds),
-            ratio: median(&self.ratios),
-            range: (self.ratios[0], self.ratios[self.ratios.len() - 1]),
+            ratio: median(&ratios),
+            range: (ratios[0], ratios[ratios.len() - 1]),
+            rounds: self.nanoseconds,
             in_order: self.in_order,
             right: self.right,
         }
@@ -104,29 +121,32 @@ impl Trial {
             .retain(|entrant| entrant.name == base || entrant.name.contains(part));
     }
 
-    /// Runs every round: each goes through all contenders, so that a busy minute of the machine hits them alike.
-    pub fn measure(self, rounds: usize) -> Measured {
-        let mut all: Vec<Rounds> = self
-            .entrants
-            .iter()
+    fn begun(&self) -> Vec<Rounds> {
+        let entrants = self.entrants.iter();
+        entrants
             .map(|_| Rounds {
                 right: true,
                 ..Rounds::default()
             })
-            .collect();
-        for _ in 0..rounds {
-            let mut base = f64::NAN;
-            for (i, (entrant, rounds)) in self.entrants.iter().zip(&mut all).enumerate() {
-                let (nanoseconds, sum) = entrant.timed();
-                if i == 0 {
-                    base = nanoseconds;
-                }
-                rounds.nanoseconds.push(nanoseconds);
-                rounds.ratios.push(nanoseconds / base);
-                rounds.in_order = matches!(sum, Sum::Ordered(_));
-                rounds.right &= entrant.expected.agrees(sum);
+            .collect()
+    }
+
+    // Goes once through all contenders.
+    fn go(&self, all: &mut [Rounds]) {
+        let mut base = f64::NAN;
+        for (i, (entrant, rounds)) in self.entrants.iter().zip(all).enumerate() {
+            let (nanoseconds, sum) = entrant.timed();
+            if i == 0 {
+                base = nanoseconds;
             }
+            rounds.nanoseconds.push(nanoseconds);
+            rounds.ratios.push(nanoseconds / base);
+            rounds.in_order = matches!(sum, Sum::Ordered(_));
+            rounds.right &= entrant.expected.agrees(sum);
         }
+    }
+
+    fn measured(self, all: Vec<Rounds>) -> Measured {
         let entrants = self.entrants.iter();
         Measured {
             title: self.title,
@@ -137,4 +157,24 @@ impl Trial {
                 .collect(),
         }
     }
+}
+
+/// Runs every round: each goes through all trials and all their contenders, so that a busy minute of the machine hits them alike.
+pub fn measure(trials: Vec<Trial>, rounds: usize) -> Vec<Measured> {
+    let mut begun: Vec<(Trial, Vec<Rounds>)> = trials
+        .into_iter()
+        .map(|trial| {
+            let all = trial.begun();
+            (trial, all)
+        })
+        .collect();
+    for _ in 0..rounds {
+        for (trial, all) in &mut begun {
+            trial.go(all);
+        }
+    }
+    begun
+        .into_iter()
+        .map(|(trial, all)| trial.measured(all))
+        .collect()
 }

@@ -2,7 +2,10 @@
 
 use crate::checksum::{mix, Checksum};
 use crate::random::Random;
-use crate::timers::{Timers, CAPACITY, OWNERS};
+use crate::timers::{Timers, OWNERS};
+
+/// How many rows a store has where a workload does not say it.
+const ROWS: u32 = 4_096;
 
 /// How many timers the restart storm has.
 const RESTARTED: u32 = 1_024;
@@ -46,6 +49,17 @@ pub enum Workload {
         /// How many stop and start again.
         operations: u32,
     },
+    /// Some timers are stopped one after the other, and as many are started, again and again; the tick stands still.
+    Bursts {
+        /// How many rows the store has.
+        rows: u32,
+        /// How many timers are pending before and after a burst.
+        pending: u32,
+        /// How many of them are stopped, and then started, in a burst.
+        burst: u32,
+        /// How many bursts.
+        bursts: u32,
+    },
 }
 
 fn owner(payload: u32) -> u8 {
@@ -60,13 +74,21 @@ impl Workload {
             Workload::Fire { timers, .. } => format!("fire, {timers} timers"),
             Workload::Idle { .. } => "idle advance".to_string(),
             Workload::StartStop { pending, .. } => format!("start and stop, {pending} pending"),
+            Workload::Bursts {
+                rows,
+                pending,
+                burst,
+                ..
+            } => format!("bursts of {burst}, {pending} pending of {rows}"),
         }
     }
 
     /// What its time is divided by.
     pub fn unit(self) -> &'static str {
         match self {
-            Workload::Restart { .. } | Workload::StartStop { .. } => "stop and start",
+            Workload::Restart { .. } | Workload::StartStop { .. } | Workload::Bursts { .. } => {
+                "stop and start"
+            }
             Workload::Fire { .. } => "timer",
             Workload::Idle { .. } => "tick",
         }
@@ -78,6 +100,15 @@ impl Workload {
             Workload::Restart { operations } | Workload::StartStop { operations, .. } => operations,
             Workload::Fire { timers, rounds } => timers * rounds,
             Workload::Idle { ticks } => ticks,
+            Workload::Bursts { burst, bursts, .. } => burst * bursts,
+        }
+    }
+
+    /// How many rows a store needs for it.
+    pub fn rows(self) -> usize {
+        match self {
+            Workload::Bursts { rows, .. } => rows as usize,
+            _ => ROWS as usize,
         }
     }
 
@@ -99,6 +130,17 @@ impl Workload {
                 pending,
                 operations: operations / divisor,
             },
+            Workload::Bursts {
+                rows,
+                pending,
+                burst,
+                bursts,
+            } => Workload::Bursts {
+                rows,
+                pending,
+                burst,
+                bursts: bursts / divisor,
+            },
         }
     }
 
@@ -115,6 +157,12 @@ impl Workload {
                 pending,
                 operations,
             } => start_stop(timers, pending, operations),
+            Workload::Bursts {
+                pending,
+                burst,
+                bursts,
+                ..
+            } => in_bursts(timers, pending, burst, bursts),
         }
     }
 }
@@ -184,25 +232,62 @@ fn idle<S: Timers>(mut timers: S, ticks: u32) -> Checksum {
     checksum
 }
 
+// Starts timers far ahead, and knows their tickets.
+struct Starter {
+    random: Random,
+    started: u32,
+}
+
+impl Starter {
+    fn new() -> Starter {
+        Starter {
+            random: Random::new(),
+            started: 0,
+        }
+    }
+
+    fn start<S: Timers>(&mut self, timers: &mut S, payload: u32) -> (S::Handle, u32) {
+        self.started += 1;
+        let deadline = 1_000_000 + self.random.below(1_000_000);
+        let handle = timers.start(deadline, owner(payload), payload);
+        (handle, S::ticket(handle).unwrap_or(self.started))
+    }
+}
+
 fn start_stop<S: Timers>(mut timers: S, pending: u32, operations: u32) -> Checksum {
-    assert!(pending as usize <= CAPACITY);
-    let mut random = Random::new();
+    let mut starter = Starter::new();
     let mut checksum = Checksum::default();
-    let mut started = 0;
-    let mut start = |timers: &mut S, random: &mut Random, k: u32| {
-        started += 1;
-        let handle = timers.start(1_000_000 + random.below(1_000_000), owner(k), k);
-        (handle, S::ticket(handle).unwrap_or(started))
-    };
     let mut handles: Vec<S::Handle> = (0..pending)
-        .map(|k| start(&mut timers, &mut random, k).0)
+        .map(|k| starter.start(&mut timers, k).0)
         .collect();
     for _ in 0..operations {
-        let k = random.below(pending);
+        let k = starter.random.below(pending);
         timers.stop(handles[k as usize]);
-        let (handle, ticket) = start(&mut timers, &mut random, k);
+        let (handle, ticket) = starter.start(&mut timers, k);
         handles[k as usize] = handle;
         checksum.add(mix(ticket, k));
+    }
+    checksum
+}
+
+// Those that a burst stops come to the front of the list, and start again there.
+fn in_bursts<S: Timers>(mut timers: S, pending: u32, burst: u32, bursts: u32) -> Checksum {
+    let mut starter = Starter::new();
+    let mut checksum = Checksum::default();
+    let mut live: Vec<(S::Handle, u32)> = (0..pending)
+        .map(|k| (starter.start(&mut timers, k).0, k))
+        .collect();
+    for _ in 0..bursts {
+        for i in 0..burst {
+            let chosen = i + starter.random.below(pending - i);
+            live.swap(i as usize, chosen as usize);
+            timers.stop(live[i as usize].0);
+        }
+        for (handle, k) in &mut live[..burst as usize] {
+            let (again, ticket) = starter.start(&mut timers, *k);
+            *handle = again;
+            checksum.add(mix(ticket, *k));
+        }
     }
     checksum
 }

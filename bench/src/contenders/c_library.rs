@@ -1,6 +1,6 @@
 //! The timers of C libraries, with one C call for each operation.
 
-use crate::timers::{Timers, CAPACITY};
+use crate::timers::Timers;
 use std::ffi::c_void;
 use std::marker::PhantomData;
 
@@ -88,10 +88,10 @@ pub struct CTimers<L: Library> {
 }
 
 impl<L: Library> CTimers<L> {
-    /// A store with nothing pending.
-    pub fn new() -> CTimers<L> {
+    /// A store with nothing pending and room for so many timers.
+    pub fn new(capacity: usize) -> CTimers<L> {
         CTimers {
-            timers: unsafe { L::NEW(CAPACITY as u32) },
+            timers: unsafe { L::NEW(capacity as u32) },
             library: PhantomData,
         }
     }

@@ -91,26 +91,29 @@ fn contenders() -> Vec<Contender> {
             proved::sum(Kind::CalledHeap, workload)
         }),
         Contender::new("std BinaryHeap, lazy deletion", |workload| {
-            sum_of(workload, std_heap::StdHeap::new())
+            sum_of(workload, std_heap::StdHeap::new(workload.rows()))
         }),
         Contender::new("std BTreeMap", |workload| {
             sum_of(workload, std_tree::StdTree::new())
         }),
         #[cfg(tokio_util)]
         Contender::new("tokio-util wheel", |workload| {
-            sum_of(workload, tokio_util::TokioUtil::new())
+            sum_of(workload, tokio_util::TokioUtil::new(workload.rows()))
         }),
         #[cfg(libuv)]
         Contender::new("libuv timers", |workload| {
-            sum_of(workload, CTimers::<c_library::Libuv>::new())
+            sum_of(workload, CTimers::<c_library::Libuv>::new(workload.rows()))
         }),
         #[cfg(libevent)]
         Contender::new("libevent min heap", |workload| {
-            sum_of(workload, CTimers::<c_library::Libevent>::new())
+            sum_of(
+                workload,
+                CTimers::<c_library::Libevent>::new(workload.rows()),
+            )
         }),
         #[cfg(libev)]
         Contender::new("libev 4-heap", |workload| {
-            sum_of(workload, CTimers::<c_library::Libev>::new())
+            sum_of(workload, CTimers::<c_library::Libev>::new(workload.rows()))
         }),
     ]
 }

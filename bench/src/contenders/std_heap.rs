@@ -1,6 +1,6 @@
 //! The standard library's binary heap: a stopped timer stays in it until it comes to the top.
 
-use crate::timers::{Timers, CAPACITY};
+use crate::timers::Timers;
 use std::cmp::Reverse;
 use std::collections::BinaryHeap;
 
@@ -28,16 +28,16 @@ pub struct StdHeap {
 }
 
 impl StdHeap {
-    /// A store with nothing pending.
-    pub fn new() -> StdHeap {
+    /// A store with nothing pending and room for so many timers.
+    pub fn new(capacity: usize) -> StdHeap {
         let row = Row {
             ticket: 0,
             payload: 0,
         };
         StdHeap {
-            heap: BinaryHeap::with_capacity(CAPACITY),
-            rows: vec![row; CAPACITY],
-            vacant: (0..CAPACITY as u16).rev().collect(),
+            heap: BinaryHeap::with_capacity(capacity),
+            rows: vec![row; capacity],
+            vacant: (0..capacity as u16).rev().collect(),
             now: 0,
             given: 0,
         }

@@ -1,7 +1,7 @@
 //! The timing wheel inside tokio-util's `DelayQueue`, over one entry for each payload.
 
 use crate::time::wheel::{Stack, Wheel};
-use crate::timers::{Timers, CAPACITY};
+use crate::timers::Timers;
 
 /// A timer, linked to those beside it in its slot.
 #[derive(Clone, Copy, Default)]
@@ -65,11 +65,11 @@ pub struct TokioUtil {
 }
 
 impl TokioUtil {
-    /// A store with nothing pending.
-    pub fn new() -> TokioUtil {
+    /// A store with nothing pending and room for so many timers.
+    pub fn new(capacity: usize) -> TokioUtil {
         TokioUtil {
             wheel: Wheel::new(),
-            entries: vec![Entry::default(); CAPACITY],
+            entries: vec![Entry::default(); capacity],
             now: 0,
         }
     }

@@ -1,6 +1,6 @@
 //! The stores and the rig of this repository written by hand in plain Rust: the same rules, and nothing proved.
 
-mod chains;
+mod buckets;
 pub mod heap;
 pub mod ledger;
 pub mod rig;

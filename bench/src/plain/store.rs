@@ -13,7 +13,8 @@ pub enum Fault {
     Spent = 4,
     /// No row is vacant.
     Full = 5,
-    /// The owner has as many pending entries as it may have.
+    /// The owner has as many pending entries as it may have. A store over rows refuses as full before.
+    #[allow(dead_code)]
     Limit = 6,
     /// No pending entry has the ticket.
     Missing = 7,

@@ -1,7 +1,7 @@
 //! A hierarchical timing wheel: four levels of 64 slots.
 
 use super::row_store::{Order, RowStore};
-use super::rows;
+use super::rows::{self, NO_ROW};
 
 /// The last tick of every wheel: four digits of 63 in base 64.
 pub const LAST_TICK: u32 = 16_777_215;
@@ -10,15 +10,24 @@ const LEVELS: u32 = 4;
 
 const SLOTS: usize = 256;
 
-// No row.
-const NONE: u16 = u16::MAX;
-
-/// The place of a row: its slot, and the rows beside it there.
-#[derive(Clone, Copy, Default)]
+/// The place of an entry: its slot, the rows beside it there, and its deadline.
+#[derive(Clone, Copy)]
 pub struct Link {
+    deadline: u32,
     next: u16,
     previous: u16,
     slot: u8,
+}
+
+impl Default for Link {
+    fn default() -> Link {
+        Link {
+            deadline: 0,
+            next: NO_ROW,
+            previous: NO_ROW,
+            slot: 0,
+        }
+    }
 }
 
 /// A row of a wheel.
@@ -36,17 +45,19 @@ struct Slot {
 
 impl Slot {
     const EMPTY: Slot = Slot {
-        first: NONE,
-        last: NONE,
+        first: NO_ROW,
+        last: NO_ROW,
     };
 }
 
 /// The order of a timing wheel.
 pub struct WheelOrder {
     slots: [Slot; SLOTS],
+    /// A bit for each slot of level 0 that may have entries.
+    near: u64,
 }
 
-// The slot of an entry: on the level of the highest digit in which its deadline differs from now.
+// The place of an entry: on the level of the highest digit in which its deadline differs from now.
 fn place(now: u32, deadline: u32) -> u8 {
     let level = ((now ^ deadline) | 1).ilog2() / 6;
     slot(level, deadline)
@@ -60,62 +71,46 @@ fn slot(level: u32, tick: u32) -> u8 {
 impl<'a, P: Copy> Wheel<'a, P> {
     /// A wheel with nothing pending over the rows, whatever they hold.
     pub fn new(rows: &'a mut [Row<P>], first: u32) -> Wheel<'a, P> {
-        RowStore::over(rows, first, LAST_TICK, |_| WheelOrder {
+        let order = WheelOrder {
             slots: [Slot::EMPTY; SLOTS],
-        })
+            near: 0,
+        };
+        RowStore::over(rows, first, LAST_TICK, order)
     }
 }
 
 impl WheelOrder {
-    // Puts a row at the end of a slot.
-    fn append<P>(&mut self, rows: &mut [Row<P>], x: u16, slot: u8) {
-        let previous = self.slots[usize::from(slot)].last;
-        self.slots[usize::from(slot)].last = x;
-        if previous == NONE {
-            self.slots[usize::from(slot)].first = x;
-        } else {
-            rows[usize::from(previous)].link.next = x;
+    // Puts a row at the end of the slot of its place.
+    #[inline(always)]
+    fn append<P>(&mut self, rows: &mut [Row<P>], now: u32, x: usize, deadline: u32) {
+        let place = place(now, deadline);
+        if place < 64 {
+            self.near |= 1 << place;
         }
-        rows[usize::from(x)].link = Link {
-            next: NONE,
+        let slot = &mut self.slots[usize::from(place)];
+        let previous = std::mem::replace(&mut slot.last, x as u16);
+        match rows.get_mut(usize::from(previous)) {
+            Some(row) => row.link.next = x as u16,
+            None => slot.first = x as u16,
+        }
+        rows[x].link = Link {
+            deadline,
+            next: NO_ROW,
             previous,
-            slot,
+            slot: place,
         };
     }
 
-    // Takes a row out of its slot.
-    fn unlink<P>(&mut self, rows: &mut [Row<P>], x: usize) {
-        let Link {
-            next,
-            previous,
-            slot,
-        } = rows[x].link;
-        if previous == NONE {
-            self.slots[usize::from(slot)].first = next;
-        } else {
-            rows[usize::from(previous)].link.next = next;
-        }
-        if next == NONE {
-            self.slots[usize::from(slot)].last = previous;
-        } else {
-            rows[usize::from(next)].link.previous = previous;
-        }
-    }
-
     // Now has come to a slot of a higher level: its entries go to lower ones.
-    #[cold]
-    #[inline(never)]
     fn cascade<P>(&mut self, rows: &mut [Row<P>], now: u32) {
         let level = (now.trailing_zeros() / 6).min(LEVELS - 1);
-        let source = &mut self.slots[usize::from(slot(level, now))];
-        let mut x = source.first;
-        *source = Slot::EMPTY;
-        while x != NONE {
-            let row = &rows[usize::from(x)];
-            let next = row.link.next;
-            let slot = place(now, row.deadline);
-            self.append(rows, x, slot);
-            x = next;
+        let emptied =
+            std::mem::replace(&mut self.slots[usize::from(slot(level, now))], Slot::EMPTY);
+        let mut x = usize::from(emptied.first);
+        while let Some(row) = rows.get(x) {
+            let Link { deadline, next, .. } = row.link;
+            self.append(rows, now, x, deadline);
+            x = usize::from(next);
         }
     }
 }
@@ -123,23 +118,54 @@ impl WheelOrder {
 impl<P: Copy> Order<P> for WheelOrder {
     type Link = Link;
 
-    fn insert(&mut self, rows: &mut [Row<P>], now: u32, x: usize) {
-        let slot = place(now, rows[x].deadline);
-        self.append(rows, x as u16, slot);
+    #[inline(always)]
+    fn insert(&mut self, rows: &mut [Row<P>], now: u32, x: usize, deadline: u32) {
+        self.append(rows, now, x, deadline);
     }
 
-    fn remove(&mut self, rows: &mut [Row<P>], x: usize) {
-        self.unlink(rows, x);
+    #[inline(always)]
+    fn remove(&mut self, rows: &mut [Row<P>], gone: &Row<P>) {
+        let Link {
+            next,
+            previous,
+            slot,
+            ..
+        } = gone.link;
+        let slot = &mut self.slots[usize::from(slot)];
+        match rows.get_mut(usize::from(previous)) {
+            Some(row) => row.link.next = next,
+            None => slot.first = next,
+        }
+        match rows.get_mut(usize::from(next)) {
+            Some(row) => row.link.previous = previous,
+            None => slot.last = previous,
+        }
     }
 
     fn first_due(&self, now: u32) -> Option<usize> {
         let first = self.slots[(now % 64) as usize].first;
-        (first != NONE).then_some(usize::from(first))
+        (first != NO_ROW).then_some(usize::from(first))
     }
 
     fn turn(&mut self, rows: &mut [Row<P>], now: u32) {
         if now % 64 == 0 {
             self.cascade(rows, now);
+        }
+    }
+
+    // The next slot of level 0 with entries, or the next cascade. A slot whose entries were stopped is noticed here.
+    fn next_event(&mut self, now: u32) -> u32 {
+        loop {
+            let ahead = self.near >> (now % 64);
+            if ahead == 0 {
+                return (now | 63) + 1;
+            }
+            let steps = ahead.trailing_zeros();
+            let slot = now % 64 + steps;
+            if self.slots[slot as usize].first != NO_ROW {
+                return now + steps;
+            }
+            self.near &= !(1 << slot);
         }
     }
 }
