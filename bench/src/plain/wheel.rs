@@ -57,7 +57,7 @@ pub struct WheelOrder {
     near: u64,
 }
 
-// The place of an entry: on the level of the highest digit in which its deadline differs from now.
+// The place of an entry: its level is that of the topmost digit where deadline and tick disagree.
 fn place(now: u32, deadline: u32) -> u8 {
     let level = ((now ^ deadline) | 1).ilog2() / 6;
     slot(level, deadline)
