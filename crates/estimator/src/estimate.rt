@@ -48,10 +48,10 @@ impl Estimator {
         ensures { self.new ≡ sample_rule self.old ticks }
     {
         let sample = ticks.min(MOST_SAMPLE);
-        let round_trip = self.round_trip.map_or_else(
-            || RoundTrip::first(sample),
-            |round_trip| round_trip.next(sample),
-        );
+        let round_trip = match self.round_trip {
+            None => RoundTrip::first(sample),
+            Some(round_trip) => round_trip.next(sample),
+        };
         *self = Estimator {
             round_trip: Some(round_trip),
             timeout: round_trip.timeout(),
@@ -59,7 +59,6 @@ impl Estimator {
     }
 
     /// The estimator after these samples, from no sample on.
-    #[tactic(auto, using(crate::proofs::Bounds::law, crate::proofs::Bounds::differences), unfolding(crate::specs::Estimate::rounded))]
     pub fn after(samples: &[u32]) -> Estimator
         ensures value { result ≡ after_rule samples.now }
         ensures bounded { Bounded result }
@@ -68,11 +67,10 @@ impl Estimator {
         ensures differences { Differences }
         ensures examples { Examples }
     {
-        samples
-            .iter()
-            .fold(Estimator::new(), |mut estimator, ticks| {
-                estimator.sample(*ticks);
-                estimator
-            })
+        let mut estimator = Estimator::new();
+        for ticks in samples {
+            estimator.sample(*ticks);
+        }
+        estimator
     }
 }

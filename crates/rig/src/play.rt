@@ -3,7 +3,7 @@ ghost use Rattle.replay.specs.Alike.{Both};
 ghost use Rattle.rig.specs.Draft.{with_fates};
 
 use crate::script;
-use crate::stores::{Rows, Stores};
+use crate::stores::{ATTEMPT, KEEPALIVE_ROWS, PACKET, RESEND_ROWS, Stores, WIRE_ROWS};
 use anyhow::anyhow;
 use channel::record::{Attempt, Channel};
 use link::packet::Packet;
@@ -12,27 +12,33 @@ use replay::pair::{Pair, run_pair};
 use std::alloc::Global;
 use timer::store::Store;
 use timer_quota::quota::Quota;
+use timer_rows::row::Row;
 use transport::rig::Draft;
 
 /// The session over wheels, and beside it over lists of the same sizes.
 pub fn over_wheels_and_lists(heap: Global) -> anyhow::Result<Pair>
     ensures { IfOk result (λ p. Both p.first p.second) }
 {
-    let mut rows = Rows::vacant();
-    let mut other_rows = Rows::vacant();
+    // Each array is a variable of its own: a struct of them would be copied when it is made, and the stack would hold it twice.
+    let mut wire_rows = [Row::vacant(PACKET); WIRE_ROWS];
+    let mut resend_rows = [Row::vacant(ATTEMPT); RESEND_ROWS];
+    let mut keepalive_rows = [Row::vacant(0); KEEPALIVE_ROWS];
+    let mut other_wire_rows = wire_rows;
+    let mut other_resend_rows = resend_rows;
+    let mut other_keepalive_rows = keepalive_rows;
     let Stores {
         mut wire,
         mut resend,
         mut keepalive,
-    } = Stores::wheels(&mut rows.wire, &mut rows.resend, &mut rows.keepalive);
+    } = Stores::wheels(&mut wire_rows, &mut resend_rows, &mut keepalive_rows);
     let Stores {
         wire: mut other_wire,
         resend: mut other_resend,
         keepalive: mut other_keepalive,
     } = Stores::lists(
-        &mut other_rows.wire,
-        &mut other_rows.resend,
-        &mut other_rows.keepalive,
+        &mut other_wire_rows,
+        &mut other_resend_rows,
+        &mut other_keepalive_rows,
     );
     play(
         heap,

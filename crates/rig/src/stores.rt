@@ -1,4 +1,4 @@
-ghost use Rattle.std.specs.Prelude.{◌≡◌, length};
+ghost use Rattle.std.specs.Prelude.{◌≡◌};
 ghost use Rattle.timer_order.specs.Idle.{idle};
 
 use channel::record::Attempt;
@@ -11,15 +11,20 @@ use timer_rows::row::Row;
 use timer_wheel::wheel::{self, LAST_TICK, Wheel, WheelOrder};
 use trace::action::Segment;
 
-const WIRE_ROWS: usize = 512;
+/// How many rows the wire has.
+pub const WIRE_ROWS: usize = 512;
 
-const RESEND_ROWS: usize = 256;
+/// How many rows the resend timers have.
+pub const RESEND_ROWS: usize = 256;
 
-const KEEPALIVE_ROWS: usize = 64;
+/// How many rows the keepalive timers have.
+pub const KEEPALIVE_ROWS: usize = 64;
 
-const PACKET: Packet = Packet::Keepalive { sequence: 0 };
+/// What a vacant row of the wire holds.
+pub const PACKET: Packet = Packet::Keepalive { sequence: 0 };
 
-const ATTEMPT: Attempt = Attempt {
+/// What a vacant row of the resend timers holds.
+pub const ATTEMPT: Attempt = Attempt {
     segment: Segment {
         sequence: 0,
         word: 0,
@@ -27,30 +32,6 @@ const ATTEMPT: Attempt = Attempt {
     tries: 0,
     sent: 0,
 };
-
-/// The rows of the three stores of a rig.
-#[derive(Clone, Copy)]
-pub struct Rows {
-    /// The rows of the wire.
-    pub wire: [Row<Packet>; WIRE_ROWS],
-    /// The rows of the resend timers.
-    pub resend: [Row<Attempt>; RESEND_ROWS],
-    /// The rows of the keepalive timers.
-    pub keepalive: [Row<u8>; KEEPALIVE_ROWS],
-}
-
-impl Rows {
-    /// Vacant rows, as many as the session's stores have.
-    pub fn vacant() -> Rows
-        ensures { (length result.wire ≡ 512) × (length result.resend ≡ 256) × (length result.keepalive ≡ 64) }
-    {
-        Rows {
-            wire: [Row::vacant(PACKET); WIRE_ROWS],
-            resend: [Row::vacant(ATTEMPT); RESEND_ROWS],
-            keepalive: [Row::vacant(0); KEEPALIVE_ROWS],
-        }
-    }
-}
 
 /// The three stores of a rig, all in one order.
 #[derive(Drop)]

@@ -11,17 +11,16 @@ use crate::row::{NO_ROW, Row};
 use crate::rows::vacant_row;
 use timer::fault::TimerFault;
 
-/// Marks every row vacant and every bucket empty, and puts all rows on the stack of vacant rows, row 0 on top.
+/// Marks every row vacant and every bucket empty, and puts all rows of a store on the stack of vacant rows, row 0 on top; a store has at most 4,096.
 pub fn clear<P: Copy>(rows: &mut [Row<P>])
-    requires { length rows.old ≤ 4096 }
     ensures vacant { (i : ℕ) → slice_index (tickets rows.new) i ≡ 0 }
     ensures buckets { (i : ℕ) → slice_index_or (buckets rows.new) i 65535 ≡ 65535 }
-    ensures stack { (i : ℕ) → i < length rows.new → slice_index (chains rows.new) i ≡ i + 1 }
+    ensures stack { length rows.old ≤ 4096 → (i : ℕ) → i < length rows.new → slice_index (chains rows.new) i ≡ i + 1 }
 {
     for (x, row) in rows.iter_mut().enumerate() {
         row.ticket = 0;
         row.bucket = NO_ROW;
-        row.chain = (x + 1) as u16;
+        row.chain = (x + 1).min(usize::from(NO_ROW)) as u16;
     }
 }
 

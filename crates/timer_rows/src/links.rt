@@ -100,7 +100,7 @@ impl<const N: usize> Sentinels<N> {
     }
 
     /// Takes a row out of its slot: its neighbours are linked to each other.
-    pub(crate) fn unlink<P: Copy>(&mut self, rows: &mut [Row<P>], x: u16)
+    pub fn unlink<P: Copy>(&mut self, rows: &mut [Row<P>], x: u16)
         requires node { x < length rows.old + N }
         requires after { slice_index (ons rows.old self.old.ends) x < length rows.old + N }
         requires before { slice_index (backs rows.old self.old.ends) x < length rows.old + N }
@@ -115,7 +115,7 @@ impl<const N: usize> Sentinels<N> {
     }
 
     /// Puts a row that is in no slot before a node.
-    pub(crate) fn link<P: Copy>(&mut self, rows: &mut [Row<P>], x: u16, node: u16)
+    pub fn link<P: Copy>(&mut self, rows: &mut [Row<P>], x: u16, node: u16)
         requires nodes { (x < length rows.old + N) × (node < length rows.old + N) }
         requires before { slice_index (backs rows.old self.old.ends) node < length rows.old + N }
         ensures ons { ons rows.new self.new.ends ≡ slice_set (slice_set (ons rows.old self.old.ends) (slice_index (backs rows.old self.old.ends) node) x) x node }
