@@ -16,8 +16,8 @@ lies tick k s deadline = (level tick deadline == k) && (digit k deadline == s)
 abbrev pub lying : {P : Type 0} → ℕ → ℕ → ℕ → List (Entry P) → List (Entry P)
 lying tick k s es = filter (λ e. lies tick k s e.deadline) es
 
--- the wheel at a tick: each pending entry is on the level of the highest digit in which its deadline differs from the tick, and
--- on level 0 where it is due; a walk along the slot s of level k meets the entries of that level whose deadlines have that digit
+-- the wheel at a tick: the level of a pending entry is that of the topmost digit where deadline and tick disagree, and 0 where
+-- it is due; a walk along the slot s of level k meets the entries of that level whose deadlines have that digit
 -- there, in the order of their tickets, and a walk back meets them in the opposite one
 pub record Layout {P : Type 0} (tick : ℕ) (rows : List (Row P)) (es : List Ends) : Type 0 where
   pub levels : All (λ e. Highest (level tick e.deadline) tick e.deadline) (entries rows)

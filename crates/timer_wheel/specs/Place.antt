@@ -15,7 +15,7 @@ pub record Highest (k a b : ℕ) : Type 0 where
 abbrev pub alike : ℕ → ℕ → ℕ → Bool
 alike k a b = a / 64 ^ k == b / 64 ^ k
 
--- an entry lies on the level of the highest digit in which its deadline differs from the tick, and on level 0 where none does:
+-- the level of an entry is that of the topmost digit where deadline and tick disagree, and 0 where none does:
 -- the deadline 100, in digits 1 36, lies on level 1 at tick 0, and on level 0 at tick 64, in digits 1 0;
 -- the deadline 64 lies on level 1 at tick 63, and the deadline 4096 on level 2 at tick 4095
 abbrev pub level : ℕ → ℕ → ℕ

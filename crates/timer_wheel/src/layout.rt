@@ -14,8 +14,8 @@ use timer::store::Store;
 
 /// The ticket of the first entry of a slot on a level; nothing if the slot is empty, or there is none with these numbers.
 ///
-/// Whatever calls led to a wheel, each pending entry lies on the level of the highest digit in which its deadline differs from
-/// now, and each slot is a list of its entries in the order of their tickets.
+/// Whatever calls led to a wheel, the level of a pending entry is that of the topmost digit where deadline and now disagree, and
+/// each slot is a list of its entries in the order of their tickets.
 pub fn front<P: Copy>(wheel: &Wheel<P>, level: u32, slot: u32) -> Option<u32>
     ensures front { result ≡ (if nat_lt level 4 && nat_lt slot 64 then first_ticket (lying wheel.now.ledger.now level slot (entries (used wheel.now.rows.now))) else None) }
     ensures layout { Layout wheel.now.ledger.now (used wheel.now.rows.now) wheel.now.order.slots.ends }

@@ -10,7 +10,7 @@ pub(crate) const SLOTS: u32 = 64;
 
 pub(crate) const LEVELS: u32 = 4;
 
-// The level of an entry with this deadline: that of the highest digit in which its deadline differs from now.
+// The level of an entry with this deadline: the number of the topmost digit where deadline and now disagree, or 0.
 #[tactic(auto, using(std::proofs::lemmas::Nat::le_or_r, crate::proofs::Levels::log_level, crate::proofs::Levels::level_highest))]
 fn level(now: u32, deadline: u32) -> u32
     ensures value { result ≡ level now deadline }
@@ -36,7 +36,7 @@ fn place_on(level: u32, tick: u32) -> usize
     (SLOTS * level + digit(level, tick)) as usize
 }
 
-/// The place of an entry with this deadline, on the level of the highest digit in which its deadline differs from now, in the slot of that digit.
+/// The place of an entry with this deadline: the slot of the deadline's digit on the level of the topmost digit where deadline and now disagree.
 #[tactic(auto, using(crate::proofs::Levels::highest_examples))]
 pub fn place(now: u32, deadline: u32) -> usize
     ensures value { result ≡ place now deadline }
